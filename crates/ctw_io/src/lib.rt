@@ -1,7 +1,7 @@
 // What the program reads from and writes to: a shelf of files and a sink for text.
 #![tactic(auto)]
 
-ghost use Rattle.std.specs.Prelude.{◌≡◌, ◌≤◌, ◌<◌, ℕ, List, length, take, Option, Some, IfOk, OnOk, OnErr, IsErrOf};
+ghost use Rattle.std.specs.Prelude.{◌≡◌, ◌≤◌, ◌<◌, ℕ, List, length, take, Option, Some, IfOk, OnOk, OnErr, IsOk, IsErrOf};
 ghost use Rattle.std.specs.FinMap.{get, insert};
 ghost use Rattle.ctw_io.specs.declared.Fault.TheVariants.{Failed, NoMemory};
 ghost use Rattle.ctw_io.specs.Files.{Files, IsLoadOf, IsWithin, IsHalfSaved};
@@ -85,7 +85,7 @@ pub fn send<K: Sink>(out: &mut K, bytes: &[u8]) -> Result<(), Fault>
     ensures err { OnErr result (TookPrefix (K.taken out.old) (K.taken out.new) bytes.now) }
     ensures kept { K.faults out.old ≤ K.faults out.new }
     ensures failed { IsErrOf result Failed → Rose (K.faults out.old) (K.faults out.new) }
-    ensures empty { length bytes.now ≡ 0 → (K.taken out.new ≡ K.taken out.old) × (K.faults out.new ≡ K.faults out.old) }
+    ensures empty { length bytes.now ≡ 0 → IsOk result × (K.taken out.new ≡ K.taken out.old) × (K.faults out.new ≡ K.faults out.old) }
 {
     let mut at = 0;
     while at < bytes.len() {
