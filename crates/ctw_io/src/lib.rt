@@ -8,6 +8,8 @@ ghost use Rattle.ctw_io.specs.Files.{Files, IsLoadOf, IsWithin, IsHalfSaved};
 ghost use Rattle.ctw_io.specs.Faults.{Rose, HasCause};
 ghost use Rattle.ctw_io.specs.Taken.{grown, TookPrefix};
 
+mod kept;
+
 use std::alloc::Global;
 
 /// Why a call on a shelf or a sink gave no answer.
