@@ -1,12 +1,11 @@
 -- What the shelves and sinks that stand in memory are seen as.
-use Rattle.std.specs.Prelude.{◌≡◌, ◌<◌, ◌+◌, ℕ, List, [], map, length, min, Bool, if◌then◌else◌, String, string_bytes, Vec, Option, None, HoldsAt, take, refl}
+use Rattle.std.specs.Prelude.{◌≡◌, ◌≢◌, AllPairs, ◌<◌, ◌+◌, ℕ, List, [], map, length, min, Bool, if◌then◌else◌, String, string_bytes, Vec, Option, None, HoldsAt, take, refl}
 use Rattle.std.specs.FinMap.{FinMap, find, from_entries, code}
 use Rattle.std.specs.Ordering.{nat_cmp}
 use Rattle.std.specs.Cmp.Lexicographic.{slice_cmp}
 use Rattle.std.specs.Coded.{Coded, code_by, coded×, coded_ℕ, coded_list}
 use Rattle.std.specs.declared.alloc.Global.{Global}
 use Rattle.ctw_io.specs.Files.{Files}
-use Rattle.ctw_io.specs.Faults.{last_count}
 
 -- a file's name and its content, as the program holds them
 abbrev pub NamedFile : Type 0
@@ -28,11 +27,38 @@ pub record IsPlaceOf (files : List NamedFile) (name : List ℕ) (place : ℕ) : 
 
 -- no two files have one name
 abbrev pub NamesDiffer : List NamedFile → Type 0
-NamesDiffer files = (i j : ℕ) (a b : NamedFile) → HoldsAt (λ file. file ≡ a) files i → HoldsAt (λ file. file ≡ b) files j → string_bytes a.0 ≡ string_bytes b.0 → i ≡ j
+NamesDiffer files = AllPairs (λ a b. string_bytes a.0 ≢ string_bytes b.0) files
 
--- how a count goes on: by one, and not past its type's end
-abbrev pub next_count : ℕ → ℕ
-next_count count = min (count + 1) last_count
-
+-- files are stored as the list of their entries
 abbrev pub files_code : Coded Files
 files_code = code (coded_list coded_ℕ) (coded_list coded_ℕ)
+
+-- a shelf whose calls of these numbers fail: its files, how many calls it had and how many of them failed
+pub record MemFiles : Type 0 where
+  pub files : Files
+  pub fails : List ℕ
+  pub calls : ℕ
+  pub faults : ℕ
+
+abbrev pub mem_files_code : Coded MemFiles
+mem_files_code = code_by (Files × (List ℕ × (ℕ × ℕ))) (coded× files_code (coded× (coded_list coded_ℕ) (coded× coded_ℕ coded_ℕ))) (λ s. (s.files, (s.fails, (s.calls, s.faults)))) (λ p. record { files = p.0; fails = p.1.0; calls = p.1.1.0; faults = p.1.1.1 }) (λ _. refl)
+
+-- a shelf that doesn't fail
+pub record SureFiles : Type 0 where
+  pub files : Files
+
+abbrev pub sure_files_code : Coded SureFiles
+sure_files_code = code_by Files files_code (λ s. s.files) (λ files. record { files = files }) (λ _. refl)
+
+-- a sink that takes at most so many bytes a call, and whose calls of these numbers fail
+pub record MemBytes : Type 0 where
+  pub taken : List ℕ
+  pub most : ℕ
+  pub fails : List ℕ
+  pub calls : ℕ
+  pub faults : ℕ
+
+-- a sink that takes at most so many bytes a call, and doesn't fail
+pub record SureBytes : Type 0 where
+  pub taken : List ℕ
+  pub most : ℕ

@@ -14,6 +14,7 @@ use std::marker::Model;
 /// Files in memory, which contracts see as a map from name to content.
 #[derive(Drop)]
 pub(crate) struct Kept {
+    alloc: Global,
     files: Vec<(String, Vec<u8>)>,
 }
 
@@ -30,10 +31,10 @@ impl Model for Kept {
 
 impl Kept {
     /// The files of this list; of two with one name the first counts.
-    pub(crate) fn new(files: Vec<(String, Vec<u8>)>) -> Kept
+    pub(crate) fn new(alloc: Global, files: Vec<(String, Vec<u8>)>) -> Kept
         ensures { result ≡ files_of files.items }
     {
-        Kept { files }
+        Kept { alloc, files }
     }
 
     /// The content of the file of this name.
@@ -50,14 +51,13 @@ impl Kept {
         ensures ok { OnOk result (self.new ≡ insert self.old name.now bytes.now) }
         ensures err { OnErr result (self.new ≡ self.old) }
     {
-        let alloc = *self.files.allocator();
-        let content = Vec::from_slice(alloc, bytes)?;
+        let content = Vec::from_slice(self.alloc, bytes)?;
         if let Some(place) = place_of(&self.files, name) {
             let file = &mut self.files[place];
             file.1 = content;
             return Ok(());
         }
-        let name = String::from_str(alloc, name)?;
+        let name = String::from_str(self.alloc, name)?;
         self.files.push((name, content))?;
         Ok(())
     }

@@ -9,7 +9,12 @@ ghost use Rattle.ctw_io.specs.Faults.{Rose, HasCause};
 ghost use Rattle.ctw_io.specs.Taken.{grown, TookPrefix};
 
 mod kept;
+mod plan;
+mod shelves;
+mod sinks;
 
+pub use shelves::{MemShelf, SureShelf};
+pub use sinks::{MemSink, SureSink};
 use std::alloc::Global;
 
 /// Why a call on a shelf or a sink gave no answer.
