@@ -12,9 +12,13 @@ mod kept;
 mod plan;
 mod shelves;
 mod sinks;
+mod system;
+#[cfg(test)]
+mod tests;
 
 pub use shelves::{MemShelf, SureShelf};
 pub use sinks::{MemSink, SureSink};
+pub use system::{DirShelf, OutSink};
 use std::alloc::Global;
 
 /// Why a call on a shelf or a sink gave no answer.

@@ -12,7 +12,6 @@ pub(crate) struct Plan {
 
 impl Plan {
     /// Counts one more call, and its fault where it is to fail, and tells whether it is.
-    #[tactic(auto, unfolding(crate::specs::Faults::last_count))]
     pub(crate) fn count_call(&mut self) -> bool
         ensures fails { IsTrue result ↔ Contains self.old.fails.items (self.old.calls + 1) }
         ensures kept { self.new.fails ≡ self.old.fails }
@@ -21,9 +20,9 @@ impl Plan {
         ensures grows { self.old.faults ≤ self.new.faults }
     {
         let fails = is_next_listed(&self.fails, self.calls);
-        self.calls = self.calls.saturating_add(1);
+        count_up(&mut self.calls);
         if fails {
-            self.faults = self.faults.saturating_add(1);
+            count_up(&mut self.faults);
         }
         fails
     }
@@ -37,4 +36,13 @@ fn is_next_listed(numbers: &[u64], calls: u64) -> bool
         Some(number) => numbers.contains(&number),
         None => false,
     }
+}
+
+/// Makes the count one more. At the end of its type it stands still.
+#[tactic(auto, unfolding(crate::specs::Faults::last_count))]
+pub(crate) fn count_up(count: &mut u64)
+    ensures counted { count.new ≡ next_count count.old }
+    ensures grows { count.old ≤ count.new }
+{
+    *count = count.saturating_add(1);
 }
