@@ -1,2 +1,3 @@
-mod Taking
+pub mod Faults
 mod Places
+pub mod Taking

@@ -1,6 +1,5 @@
 -- Looking a file up by its name, replacing it and adding one.
-use Rattle.std.proofs.Common.{◌≡◌, ◌<◌, ◌+◌, ℕ, zero, suc, Bool, true, false, cond, List, [], ◌∷◌, ◌++◌, map, length, get_or, set, take, Option, Some, None, Vec, String, string_bytes, refl, sym, ap, ◌∙◌, arith, nat_eq, add-one}
-use Rattle.std.specs.declared.alloc.Global.{Global}
+use Rattle.std.proofs.Common.{◌≡◌, ◌<◌, ◌+◌, ℕ, zero, suc, Bool, true, false, cond, List, [], ◌∷◌, ◌++◌, length, get_or, set, take, Option, Some, None, string_bytes, refl, sym, ap, ◌∙◌, arith, nat_eq, add-one}
 use Rattle.std.specs.FinMap.{get, insert, find, from_entries, get-from_entries, get-insert, from_entries_push, same_map, slice_cmp-IsAntisymmetric, nat_cmp-IsAntisymmetric}
 use Rattle.std.specs.Ordering.{nat_cmp, eq_by_cmp}
 use Rattle.std.specs.Cmp.Lexicographic.{slice_cmp, texts_ties}
@@ -80,9 +79,9 @@ replaced files there told q bytes i file new v s p is same c =
     let place : IsPlaceOf files q i = rw (← s) p in
     let named : string_bytes new.0 ≡ q = ap string_bytes same ∙ ap (λ (f : NamedFile). string_bytes f.0) is ∙ place.named file in
     same_map nat_list_cmp_total (slice_cmp-IsAntisymmetric nat_cmp-IsAntisymmetric) (files_of (set files i new)) (insert told q bytes) (λ k.
-      get-from_entries nat_list_cmp_total (file_entries (set files i new)) k
-      ∙ content_set files q k i file new place.within (place.named file) named place.first
-      ∙ rw (c, ← v) (ap (cond (is_name k q) (Some bytes)) (sym (get-from_entries nat_list_cmp_total (file_entries files) k)) ∙ sym (get-insert nat_list_cmp_total (files_of files) q bytes k)))
+    get-from_entries nat_list_cmp_total (file_entries (set files i new)) k
+    ∙ content_set files q k i file new place.within (place.named file) named place.first
+    ∙ rw (c, ← v) (ap (cond (is_name k q) (Some bytes)) (sym (get-from_entries nat_list_cmp_total (file_entries files) k)) ∙ sym (get-insert nat_list_cmp_total (files_of files) q bytes k)))
 
 -- a file of a new name at the list's end is told like the others
 pub added : (files there after : List NamedFile) (told : Files) (q bytes : List ℕ) (new : NamedFile) → files_of files ≡ told → there ≡ files → first_content q there ≡ None → string_bytes new.0 ≡ q → new.1.items ≡ bytes → after ≡ files ++ new ∷ [] → files_of after ≡ insert told q bytes

@@ -27,3 +27,15 @@ piece_moves at n bytes h k =
     let b = length-drop at bytes in
     let some : 0 < length (take (length bytes - at) (drop at bytes)) = omega (arith, a, b) in
     omega (arith, k some)
+
+-- all bytes are a prefix
+pub took_all : (before after : Option (List ℕ)) (bytes : List ℕ) → after ≡ grown before bytes → TookPrefix before after bytes
+took_all before after bytes e = record { count = length bytes; within = omega arith; taken = e ∙ ap (grown before) (sym (take-length bytes)) }
+
+grown_by_none : (o : Option (List ℕ)) → o ≡ grown o []
+grown_by_none None = refl
+grown_by_none (Some t) = ap Some (sym (append-nil t))
+
+-- no byte is a prefix
+pub took_none : (before : Option (List ℕ)) (bytes : List ℕ) → TookPrefix before before bytes
+took_none before bytes = record { count = 0; within = omega arith; taken = grown_by_none before }

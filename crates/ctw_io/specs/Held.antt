@@ -1,6 +1,6 @@
 -- What the shelves and sinks that stand in memory are seen as.
-use Rattle.std.specs.Prelude.{◌≡◌, ◌≢◌, AllPairs, ◌<◌, ◌+◌, ℕ, List, [], map, length, min, Bool, if◌then◌else◌, String, string_bytes, Vec, Option, None, HoldsAt, take, refl}
-use Rattle.std.specs.FinMap.{FinMap, find, from_entries, code}
+use Rattle.std.specs.Prelude.{◌≡◌, ◌≢◌, AllPairs, ◌<◌, ℕ, List, map, length, String, string_bytes, Vec, None, HoldsAt, take, refl}
+use Rattle.std.specs.FinMap.{find, from_entries, code}
 use Rattle.std.specs.Ordering.{nat_cmp}
 use Rattle.std.specs.Cmp.Lexicographic.{slice_cmp}
 use Rattle.std.specs.Coded.{Coded, code_by, coded×, coded_ℕ, coded_list}

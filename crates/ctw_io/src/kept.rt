@@ -46,8 +46,20 @@ impl Kept {
         Some(content.as_slice())
     }
 
-    /// Makes these bytes the content of the file of this name. After an error the files are as before.
-    pub(crate) fn put(&mut self, name: &str, bytes: &[u8]) -> Result<(), AllocError>
+    /// Makes these bytes the content of the file of this name. `NoMemory` is the only error, and leaves the files.
+    pub(crate) fn save(&mut self, name: &str, bytes: &[u8]) -> Result<(), Fault>
+        ensures saved { OnOk result (self.new ≡ insert self.old name.now bytes.now) }
+        ensures kept { OnErr result (self.new ≡ self.old) }
+        ensures memory { IfErr result (λ fault. fault ≡ Fault.NoMemory) }
+    {
+        match self.put(name, bytes) {
+            Ok(()) => Ok(()),
+            Err(_) => Err(Fault::NoMemory),
+        }
+    }
+
+    /// As `save`.
+    fn put(&mut self, name: &str, bytes: &[u8]) -> Result<(), AllocError>
         ensures ok { OnOk result (self.new ≡ insert self.old name.now bytes.now) }
         ensures err { OnErr result (self.new ≡ self.old) }
     {

@@ -18,8 +18,8 @@ mod tests;
 
 pub use shelves::{MemShelf, SureShelf};
 pub use sinks::{MemSink, SureSink};
-pub use system::{DirShelf, OutSink};
 use std::alloc::Global;
+pub use system::{DirShelf, OutSink};
 
 /// Why a call on a shelf or a sink gave no answer.
 #[derive(Clone, Copy, Debug, PartialEq, Eq)]

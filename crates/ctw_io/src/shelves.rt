@@ -75,9 +75,10 @@ impl Shelf for MemShelf {
         ensures unchanged { (self.new.files ≡ self.old.files) × (self.new.fails ≡ self.old.fails) }
     {
         if self.plan.count_call() {
-            return Err(Fault::Failed);
+            Err(Fault::Failed)
+        } else {
+            self.kept.load(alloc, name, limit)
         }
-        self.kept.load(alloc, name, limit)
     }
 
     fn save(&mut self, name: &str, bytes: &[u8]) -> Result<(), Fault>
@@ -92,10 +93,7 @@ impl Shelf for MemShelf {
         if self.plan.count_call() {
             return Err(Fault::Failed);
         }
-        match self.kept.put(name, bytes) {
-            Ok(()) => Ok(()),
-            Err(_) => Err(Fault::NoMemory),
-        }
+        self.kept.save(name, bytes)
     }
 }
 
@@ -157,9 +155,6 @@ impl Shelf for SureShelf {
         ensures kept { OnErr result (self.new ≡ self.old) }
         ensures memory { IfErr result (λ fault. fault ≡ NoMemory) }
     {
-        match self.kept.put(name, bytes) {
-            Ok(()) => Ok(()),
-            Err(_) => Err(Fault::NoMemory),
-        }
+        self.kept.save(name, bytes)
     }
 }

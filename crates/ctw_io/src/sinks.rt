@@ -76,11 +76,7 @@ impl Sink for MemSink {
         if self.plan.count_call() {
             return Err(Fault::Failed);
         }
-        let count = self.most.min(piece.len());
-        match self.taken.extend_from_slice(&piece[..count]) {
-            Ok(()) => Ok(count),
-            Err(_) => Err(Fault::NoMemory),
-        }
+        take_first(&mut self.taken, self.most, piece)
     }
 }
 
@@ -137,10 +133,20 @@ impl Sink for SureSink {
         ensures memory { IfErr result (λ fault. fault ≡ NoMemory) }
         ensures unchanged { self.new.most ≡ self.old.most }
     {
-        let count = self.most.min(piece.len());
-        match self.taken.extend_from_slice(&piece[..count]) {
-            Ok(()) => Ok(count),
-            Err(_) => Err(Fault::NoMemory),
-        }
+        take_first(&mut self.taken, self.most, piece)
+    }
+}
+
+/// Takes the first bytes of the piece, at most so many, and tells how many. `NoMemory` is the only error.
+fn take_first(taken: &mut Vec<u8>, most: usize, piece: &[u8]) -> Result<usize, Fault>
+    ensures count { IfOk result (λ count. count ≡ min most (length piece.now)) }
+    ensures taken { IfOk result (λ count. taken.new.items ≡ taken.old.items ++ take count piece.now) }
+    ensures kept { OnErr result (taken.new.items ≡ taken.old.items) }
+    ensures memory { IfErr result (λ fault. fault ≡ NoMemory) }
+{
+    let count = most.min(piece.len());
+    match taken.extend_from_slice(&piece[..count]) {
+        Ok(()) => Ok(count),
+        Err(_) => Err(Fault::NoMemory),
     }
 }

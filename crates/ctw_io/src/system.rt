@@ -2,8 +2,9 @@
 //
 // No contract can say what the system's files hold or what its output takes, so these two tell no content. What they
 // read and write is trusted, and tried by one test each.
-ghost use Rattle.std.specs.Prelude.{◌≡◌, None, IfOk};
+ghost use Rattle.std.specs.Prelude.{◌≡◌, ◌≤◌, None, IfOk};
 ghost use Rattle.ctw_io.specs.Files.{IsWithin};
+ghost use Rattle.ctw_io.specs.Faults.{Rose};
 
 use super::{Fault, Loaded, Shelf, Sink};
 use crate::plan::count_up;
@@ -40,10 +41,7 @@ impl<R: Files> Shelf for DirShelf<R> {
         match read_file(&self.system, alloc, name, limit) {
             Ok(loaded) => Ok(loaded),
             Err(error) if error.kind() == ErrorKind::OutOfMemory => Err(Fault::NoMemory),
-            Err(_) => {
-                count_up(&mut self.faults);
-                Err(Fault::Failed)
-            }
+            Err(_) => Err(counted_fault(&mut self.faults)),
         }
     }
 
@@ -51,10 +49,7 @@ impl<R: Files> Shelf for DirShelf<R> {
     fn save(&mut self, name: &str, bytes: &[u8]) -> Result<(), Fault> {
         match fs::write(&self.system, name, bytes) {
             Ok(()) => Ok(()),
-            Err(_) => {
-                count_up(&mut self.faults);
-                Err(Fault::Failed)
-            }
+            Err(_) => Err(counted_fault(&mut self.faults)),
         }
     }
 }
@@ -86,10 +81,7 @@ impl<P: Print> Sink for OutSink<P> {
     fn write(&mut self, piece: &[u8]) -> Result<usize, Fault> {
         match self.system.write_some(piece) {
             Ok(count) if count > 0 || piece.is_empty() => Ok(count),
-            _ => {
-                count_up(&mut self.faults);
-                Err(Fault::Failed)
-            }
+            _ => Err(counted_fault(&mut self.faults)),
         }
     }
 }
@@ -111,4 +103,14 @@ fn read_file<R: Files>(system: &R, alloc: Global, name: &str, limit: u64) -> io:
         return Ok(Loaded::More);
     }
     Ok(Loaded::Whole(bytes))
+}
+
+/// The fault of a call that failed, which is counted.
+fn counted_fault(faults: &mut u64) -> Fault
+    ensures fault { result ≡ Fault.Failed }
+    ensures rose { Rose faults.old faults.new }
+    ensures grows { faults.old ≤ faults.new }
+{
+    count_up(faults);
+    Fault::Failed
 }

@@ -68,7 +68,11 @@ fn loads_by_limit(rt: &impl Abort, alloc: Global, shelf: &mut impl Shelf) {
         ("thre", 3, b"", Answer::Missing),
         ("", 3, b"", Answer::Missing),
     ] {
-        assert_eq!(rt; answer_of(shelf.load(alloc, name, limit), content), answer, "{name} {limit}");
+        assert_eq!(rt;
+            answer_of(shelf.load(alloc, name, limit), content),
+            answer,
+            "{name} {limit}"
+        );
     }
 }
 
@@ -104,7 +108,10 @@ fn calls_of_a_shelf_fail_where_told(rt: HostRuntime) -> Result<(), Fail> {
     let mut shelf = MemShelf::new(alloc, Vec::new(alloc), fails);
     assert_eq!(rt; shelf.save("a", b"1"), Ok(()));
     assert_eq!(rt; shelf.save("a", b"2"), Err(Fault::Failed));
-    assert_eq!(rt; answer_of(shelf.load(alloc, "a", 9), b"1"), Answer::Fault(Fault::Failed));
+    assert_eq!(rt;
+        answer_of(shelf.load(alloc, "a", 9), b"1"),
+        Answer::Fault(Fault::Failed)
+    );
     assert_eq!(rt; answer_of(shelf.load(alloc, "a", 9), b"1"), Answer::Whole);
     assert_eq!(rt; shelf.save("b", b"3"), Ok(()));
     assert_eq!(rt; shelf.save("c", b"4"), Err(Fault::Failed));

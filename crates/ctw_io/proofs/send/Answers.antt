@@ -1,4 +1,4 @@
-use Rattle.std.proofs.Common.{◌≡◌, ◌+◌, arith}
+use Rattle.std.proofs.Common.{arith}
 use Rattle.ctw_io.proofs.Taking.{piece_taken, piece_within, piece_moves}
 use Rattle.ctw_io.proofs.send.Goals as goal
 

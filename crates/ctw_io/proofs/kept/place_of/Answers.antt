@@ -1,4 +1,4 @@
-use Rattle.std.proofs.Common.{◌+◌, ◌≤◌, arith}
+use Rattle.std.proofs.Common.{arith}
 use Rattle.ctw_io.proofs.Places.{past_place}
 use Rattle.ctw_io.proofs.kept.place_of.Goals as goal
 
