@@ -1,3 +1,5 @@
 pub mod FirstForm
 pub mod FirstTree
 pub mod Lookup
+pub mod Straight
+pub mod FirstReader

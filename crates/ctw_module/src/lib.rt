@@ -1,8 +1,7 @@
 // A view of a module's file.
 #![tactic(auto)]
 
-/// What an instruction of the first form is.
-#[derive(Clone, Copy, Debug, PartialEq, Eq)]
-pub enum Dummy {
-    A,
-}
+mod bytes;
+mod straight;
+
+pub use straight::{StraightInstr, StraightOp};
