@@ -1,4 +1,4 @@
-ghost use Rattle.std.specs.Prelude.{◌≡◌, option_map};
+ghost use Rattle.std.specs.Prelude.{◌≡◌, ◌<◌, option_map, IfSome};
 ghost use Rattle.std.specs.Option.{option_copied};
 ghost use Rattle.ctw_module.specs.FirstReader.{and_then, behind, before, small, sized, alone, section};
 
@@ -21,7 +21,8 @@ pub fn before<'a>(suffix: &[u8], bytes: &'a [u8]) -> Option<&'a [u8]>
 /// A number in one byte below 80 (hexadecimal), and what stands behind it.
 #[tactic(auto, unfolding(crate::specs::FirstReader::small))]
 pub fn small(bytes: &[u8]) -> Option<(u8, &[u8])>
-    ensures { option_map (λ p. (p.0, p.1.now)) result ≡ small bytes.now }
+    ensures reads { option_map (λ p. (p.0, p.1.now)) result ≡ small bytes.now }
+    ensures below { IfSome result (λ p. p.0 < 0x80) }
 {
     let (byte, rest) = bytes.split_first()?;
     if *byte < 0x80 {
