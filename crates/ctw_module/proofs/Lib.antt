@@ -1,3 +1,5 @@
 pub mod Parts
 pub mod Instructions
+pub mod Loops
 pub mod Forms
+pub mod Views

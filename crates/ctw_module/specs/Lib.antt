@@ -3,3 +3,4 @@ pub mod FirstTree
 pub mod Lookup
 pub mod Straight
 pub mod FirstReader
+pub mod FirstView

@@ -1,4 +1,4 @@
-ghost use Rattle.std.specs.Prelude.{◌≡◌, ◌<◌, option_map, IfSome};
+ghost use Rattle.std.specs.Prelude.{◌≡◌, ◌<◌, length, option_map, IfSome};
 ghost use Rattle.std.specs.Option.{option_copied};
 ghost use Rattle.ctw_module.specs.FirstReader.{and_then, behind, before, small, sized, alone, section};
 
@@ -35,7 +35,8 @@ pub fn small(bytes: &[u8]) -> Option<(u8, &[u8])>
 /// Bytes behind their size, and what stands behind them.
 #[tactic(auto, unfolding(crate::specs::FirstReader::sized))]
 pub fn sized(bytes: &[u8]) -> Option<(&[u8], &[u8])>
-    ensures { option_map (λ p. (p.0.now, p.1.now)) result ≡ sized bytes.now }
+    ensures reads { option_map (λ p. (p.0.now, p.1.now)) result ≡ sized bytes.now }
+    ensures short { IfSome result (λ p. length p.0.now < 0x80) }
 {
     let (size, rest) = small(bytes)?;
     let size = size as usize;
@@ -57,7 +58,8 @@ pub fn sized_alone(bytes: &[u8]) -> Option<&[u8]>
 /// The contents of a section of this kind, and what stands behind it.
 #[tactic(auto, unfolding(crate::specs::FirstReader::section))]
 pub fn section(id: u8, bytes: &[u8]) -> Option<(&[u8], &[u8])>
-    ensures { option_map (λ p. (p.0.now, p.1.now)) result ≡ section id bytes.now }
+    ensures reads { option_map (λ p. (p.0.now, p.1.now)) result ≡ section id bytes.now }
+    ensures short { IfSome result (λ p. length p.0.now < 0x80) }
 {
     sized(behind(&[id], bytes)?)
 }

@@ -2,6 +2,10 @@
 #![tactic(auto)]
 
 mod bytes;
+mod code;
+mod first;
 mod straight;
+mod view;
 
 pub use straight::{StraightInstr, StraightOp};
+pub use view::Module;
