@@ -40,7 +40,7 @@ when_chosen : {B : Type 0} (P : B → Type 0) (test : Bool) (b : B) → (test �
 when_chosen P true b h = h refl
 when_chosen P false b h = tt
 
-some_when : {B : Type 0} (P : B → Type 0) (o : Option B) (b : B) → IfSome o P → o ≡ Some b → P b
+pub some_when : {B : Type 0} (P : B → Type 0) (o : Option B) (b : B) → IfSome o P → o ≡ Some b → P b
 some_when P o b h e = let Q : Option _ → Type 0 = λ x. IfSome x P in subst Q e h
 
 sized_alone : (bytes : List ℕ) (p : List ℕ × List ℕ) (x : List ℕ) → sized bytes ≡ Some p → alone p ≡ Some x → (bytes ≡ counted x) × (length x < 0x80)

@@ -1,12 +1,11 @@
-ghost use Rattle.std.specs.Prelude.{◌≡◌, ◌+◌, ◌<◌, ◌≤◌, ◌^◌, ◌↔◌, length, option_map, IfSome, IsSome, nat_lt};
+ghost use Rattle.std.specs.Prelude.{◌≡◌, ◌<◌, ◌≤◌, ◌^◌, ◌↔◌, ℕ, List, Some, length, option_map, IfSome, IsSome, nat_lt};
 ghost use Rattle.std.specs.List.{list_all};
 ghost use Rattle.std.specs.Option.{option_copied};
 ghost use Rattle.ctw_module.specs.FirstForm.{FirstForm, IsFirstForm};
-ghost use Rattle.ctw_module.specs.FirstReader.{is_narrow_byte, narrow_type, result_type, signature, opening, exported, body_code, first_form_of};
+ghost use Rattle.ctw_module.specs.FirstReader.{and_then, alone, section, is_narrow_byte, narrow_type, result_type, signature, opening, exported, body_code, first_form_of};
 
 use crate::bytes::{before, behind, section, sized, sized_alone};
-use crate::code::is_code;
-use crate::view::Module;
+use crate::view::{Module, viewed};
 use ctw_ops::{FuncType, Label, Trust, ValType, Width};
 
 const HEADER: [u8; 8] = [0x00, 0x61, 0x73, 0x6D, 0x01, 0x00, 0x43, 0x54];
@@ -107,10 +106,53 @@ fn exported(contents: &[u8]) -> Option<&[u8]>
 /// The bytes of the instructions of the one body.
 #[tactic(auto, unfolding(crate::specs::FirstReader::body_code, crate::specs::FirstReader::entry_code))]
 fn body_code(contents: &[u8]) -> Option<&[u8]>
-    ensures reads { option_copied result ≡ body_code contents.now }
+    ensures { option_copied result ≡ body_code contents.now }
 {
     let entries = behind(&ONE, contents)?;
     let entry = sized_alone(entries)?;
     let text = behind(&NO_LOCALS, entry)?;
     before(&END, text)
+}
+
+/// The bytes of the instructions of the one body, in the code section, behind which nothing stands.
+fn last_code(bytes: &[u8]) -> Option<&[u8]>
+    ensures reads { option_copied result ≡ and_then (section 0x0A bytes.now) (λ bodies. and_then (alone bodies) body_code) }
+    ensures short { IfSome result (λ code. length code.now ≤ 123) }
+{
+    let (bodies, rest) = section(0x0A, bytes)?;
+    if !rest.is_empty() {
+        return None;
+    }
+    body_code(bodies)
+}
+
+/// The module that the bytes spell, if they spell one of the first form.
+#[tactic(auto, unfolding(crate::specs::FirstReader::first_form_of))]
+fn read(bytes: &[u8]) -> Option<Module<'_>>
+    ensures { result ≡ first_form_of bytes.now }
+{
+    let (func_type, rest) = opening(bytes)?;
+    let (exports, rest) = section(0x07, rest)?;
+    let name = exported(exports)?;
+    let code = last_code(rest)?;
+    viewed(func_type, name, code)
+}
+
+/// A view of a file of the first form; None where the bytes aren't of that form.
+///
+/// It says nothing of whether the body has its function's type.
+pub fn first_form<'a>(bytes: &'a [u8]) -> Option<Module<'a>>
+    requires { length bytes.now < 2 ^ 32 }
+    ensures reads { result ≡ first_form_of bytes.now }
+    ensures found { IsSome result ↔ ((f : FirstForm) × IsFirstForm bytes.now f) }
+    ensures spelled { IfSome result (λ f. IsFirstForm bytes.now f) }
+{
+    read(bytes)
+}
+
+/// The law of the reader: it gives a form exactly where the bytes spell that form, and so bytes spell no two forms.
+pub fn first_form_is_exact()
+    ensures exact { (bytes : List ℕ) (f : FirstForm) → (first_form_of bytes ≡ Some f) ↔ IsFirstForm bytes f }
+    ensures once { (bytes : List ℕ) (f g : FirstForm) → IsFirstForm bytes f → IsFirstForm bytes g → f ≡ g }
+{
 }

@@ -7,5 +7,7 @@ mod first;
 mod straight;
 mod view;
 
+pub use first::{first_form, first_form_is_exact};
+
 pub use straight::{StraightInstr, StraightOp};
 pub use view::Module;
