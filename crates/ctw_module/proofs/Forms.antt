@@ -64,18 +64,18 @@ signature_when text =
     when (IsSignature text) (alone results) _ (λ bytes d.
     when (IsSignature text) (result_type bytes) _ (λ result f.
     when_chosen (IsSignature text) (list_all is_narrow_byte params.0) _ (λ g.
-        let p = params_sound params.0 g in
-        let r = result_sound bytes result f in
-        record {
-          untrusted = refl;
-          spelled = signature_parts text counts params.0 params.1 bytes bytes (byte_types params.0) result
-            (behind_sound (0x01 ∷ 0x60 ∷ []) text counts a)
-            (sized_sound counts params.0 params.1 b).0
-            (sized_alone params.1 results bytes c d).0
-            p.0 r.0;
-          params = p.1;
-          result = r.1;
-        }))))))
+    let p = params_sound params.0 g in
+    let r = result_sound bytes result f in
+    record {
+      untrusted = refl;
+      spelled = signature_parts text counts params.0 params.1 bytes bytes (byte_types params.0) result
+          (behind_sound (0x01 ∷ 0x60 ∷ []) text counts a)
+          (sized_sound counts params.0 params.1 b).0
+          (sized_alone params.1 results bytes c d).0
+          p.0 r.0;
+      params = p.1;
+      result = r.1;
+    }))))))
 
 sized_whole : (x : List ℕ) → length x < 0x80 → sized (counted x) ≡ Some (x, [])
 sized_whole x small = ap sized (sym (append-nil (counted x))) ∙ sized_front x [] small
@@ -107,13 +107,13 @@ opening_when bytes =
     when (IsOpening bytes) (section 0x01 sections) _ (λ types b.
     when (IsOpening bytes) (signature types.0) _ (λ type c.
     when_mapped (IsOpening bytes) (behind (0x03 ∷ 0x02 ∷ 0x01 ∷ 0x00 ∷ []) types.1) _ (λ rest d.
-        let s = section_sound 0x01 sections types.0 types.1 b in
-        record {
-          text = types.0;
-          type = some_when (IsSignature types.0) (signature types.0) type (signature_when types.0) c;
-          small = s.1;
-          whole = rw (← behind_sound (0x03 ∷ 0x02 ∷ 0x01 ∷ 0x00 ∷ []) types.1 rest d, ← s.0) (behind_sound header bytes sections a);
-        }))))
+    let s = section_sound 0x01 sections types.0 types.1 b in
+    record {
+      text = types.0;
+      type = some_when (IsSignature types.0) (signature types.0) type (signature_when types.0) c;
+      small = s.1;
+      whole = rw (← behind_sound (0x03 ∷ 0x02 ∷ 0x01 ∷ 0x00 ∷ []) types.1 rest d, ← s.0) (behind_sound header bytes sections a);
+    }))))
 
 pub opening_front : (text rest : List ℕ) (t : FunctionType Label) → signature text ≡ Some t → length text < 0x80
     → opening (header ++ (0x01 ∷ (counted text ++ (0x03 ∷ 0x02 ∷ 0x01 ∷ 0x00 ∷ rest)))) ≡ Some (t, rest)
@@ -146,12 +146,12 @@ exported_when text =
     when (IsExport text) (behind (0x01 ∷ []) text) _ (λ entry a.
     when (IsExport text) (sized entry) _ (λ name b.
     when_chosen (IsExport text) (bytes_eq name.1 (0x00 ∷ 0x00 ∷ []) && list_all (λ byte. nat_lt byte 0x80) name.0) name.0 (λ c.
-        let h = both (bytes_eq name.1 (0x00 ∷ 0x00 ∷ [])) (list_all (λ byte. nat_lt byte 0x80) name.0) c in
-        let rest = (bytes_eq-Decides name.1 (0x00 ∷ 0x00 ∷ [])).0 h.0 in
-        record {
-          spelled = rw (← rest, ← (sized_sound entry name.0 name.1 b).0) (behind_sound (0x01 ∷ []) text entry a);
-          ascii = All-from_recursion (λ byte. byte < 0x80) name.0 (ascii_sound name.0 h.1);
-        })))
+    let h = both (bytes_eq name.1 (0x00 ∷ 0x00 ∷ [])) (list_all (λ byte. nat_lt byte 0x80) name.0) c in
+    let rest = (bytes_eq-Decides name.1 (0x00 ∷ 0x00 ∷ [])).0 h.0 in
+    record {
+      spelled = rw (← rest, ← (sized_sound entry name.0 name.1 b).0) (behind_sound (0x01 ∷ []) text entry a);
+      ascii = All-from_recursion (λ byte. byte < 0x80) name.0 (ascii_sound name.0 h.1);
+    })))
 
 pub exported_front : (name : List ℕ) → All (λ byte. byte < 0x80) name → length name < 0x80 → exported (0x01 ∷ (counted name ++ 0x00 ∷ 0x00 ∷ [])) ≡ Some name
 unfolding exported
@@ -171,11 +171,11 @@ body_when contents =
     when P (sized entries) _ (λ part b.
     when P (alone part) _ (λ body c.
     when P (behind (0x00 ∷ []) body) _ (λ text d.
-        let inner : (code : List ℕ) → before (0x0B ∷ []) text ≡ Some code → P code =
-          λ code e.
-            let body_is : body ≡ entry code = behind_sound (0x00 ∷ []) body text d ∙ ap (λ (l : List ℕ). 0x00 ∷ l) (before_sound (0x0B ∷ []) text code e) in
-            behind_sound (0x01 ∷ []) contents entries a ∙ ap (λ (l : List ℕ). 0x01 ∷ l) (sized_alone entries part body b c).0 ∙ ap code_contents_of body_is in
-        when_itself P (before (0x0B ∷ []) text) inner))))
+    let inner : (code : List ℕ) → before (0x0B ∷ []) text ≡ Some code → P code =
+    λ code e.
+    let body_is : body ≡ entry code = behind_sound (0x00 ∷ []) body text d ∙ ap (λ (l : List ℕ). 0x00 ∷ l) (before_sound (0x0B ∷ []) text code e) in
+    behind_sound (0x01 ∷ []) contents entries a ∙ ap (λ (l : List ℕ). 0x01 ∷ l) (sized_alone entries part body b c).0 ∙ ap code_contents_of body_is in
+    when_itself P (before (0x0B ∷ []) text) inner))))
   where
     when_itself : {B : Type 0} (P : B → Type 0) (o : Option B) → ((b : B) → o ≡ Some b → P b) → IfSome o P
     when_itself P None h = tt
@@ -239,10 +239,10 @@ made bytes type exports name bodies contents code ls o e n b a c l =
     record {
       code = code;
       spelled = found_in_turn bytes o.text type.1 exports.0 exports.1 bodies.0 bodies.1 o.whole es.0 bs.0 last.0
-        ∙ turns o.text exports.0 bodies.0
-        ∙ ap (λ (l : List ℕ). sections l exports.0 bodies.0) types
-        ∙ ap (λ (l : List ℕ). sections (type_contents f) l bodies.0) exported_is
-        ∙ ap (λ (l : List ℕ). sections (type_contents f) (export_contents f) l) contents_is;
+          ∙ turns o.text exports.0 bodies.0
+          ∙ ap (λ (l : List ℕ). sections l exports.0 bodies.0) types
+          ∙ ap (λ (l : List ℕ). sections (type_contents f) l bodies.0) exported_is
+          ∙ ap (λ (l : List ℕ). sections (type_contents f) (export_contents f) l) contents_is;
       instructions = l;
       narrow = All-from_recursion IsNarrow (type.0.params ++ optional type.0.result) (narrow_all type.0.params type.0.result o.type.params o.type.result);
       ascii = n.ascii;
@@ -262,11 +262,11 @@ form_when bytes =
     when P (alone bodies) _ (λ contents e.
     when P (body_code contents) _ (λ code g.
     when_mapped P (leaves code) _ (λ ls h.
-        made bytes type exports name bodies contents code ls
-        (some_when (IsOpening bytes) (opening bytes) type (opening_when bytes) a) b
-        (some_when (IsExport exports.0) (exported exports.0) name (exported_when exports.0) c) d e
-        (some_when (λ x. contents ≡ code_contents x) (body_code contents) code (body_when contents) g)
-        (leaves_sound code ls h))))))))
+    made bytes type exports name bodies contents code ls
+    (some_when (IsOpening bytes) (opening bytes) type (opening_when bytes) a) b
+    (some_when (IsExport exports.0) (exported exports.0) name (exported_when exports.0) c) d e
+    (some_when (λ x. contents ≡ code_contents x) (body_code contents) code (body_when contents) g)
+    (leaves_sound code ls h))))))))
 
 -- what is read is spelled
 pub form_sound : (bytes : List ℕ) (f : FirstForm) → first_form_of bytes ≡ Some f → IsFirstForm bytes f
@@ -291,12 +291,14 @@ form_front bytes f s =
     let body_small : length (entry s.code) < 0x80 = omega arith in
     let last : List ℕ = 0x0A ∷ counted bodies in
     ap first_form_of (s.spelled ∙ sym (turns types exports bodies))
-    ∙ rw (opening_front types (0x07 ∷ (counted exports ++ last)) (record { trust = Untrusted; params = f.params; result = f.result }) (signature_front f.params f.result narrow.0 narrow.1 few small) small_types,
+    ∙ rw (
+      opening_front types (0x07 ∷ (counted exports ++ last)) (record { trust = Untrusted; params = f.params; result = f.result }) (signature_front f.params f.result narrow.0 narrow.1 few small) small_types,
       section_front 0x07 exports last small_exports,
       exported_front f.name s.ascii name_small,
       section_whole 0x0A bodies small_code,
       body_front s.code body_small,
-      leaves_front f.code s.code s.instructions)
+      leaves_front f.code s.code s.instructions,
+    )
 
 -- bytes spell no two forms
 pub form_once : (bytes : List ℕ) (f g : FirstForm) → IsFirstForm bytes f → IsFirstForm bytes g → f ≡ g

@@ -175,8 +175,8 @@ instructions_enough zero n (byte ∷ bytes) x y = absurd (omega arith)
 instructions_enough (suc m) zero (byte ∷ bytes) x y = absurd (omega arith)
 instructions_enough (suc m) (suc n) (byte ∷ bytes) x y =
     enough_next (instruction (byte ∷ bytes)) (instructions m) (instructions n) (λ p e.
-        let shorter : length p.1 < length (byte ∷ bytes) = instruction_shorter (byte ∷ bytes) p e in
-        instructions_enough m n p.1 (omega arith) (omega arith))
+    let shorter : length p.1 < length (byte ∷ bytes) = instruction_shorter (byte ∷ bytes) p e in
+    instructions_enough m n p.1 (omega arith) (omega arith))
 
 -- ---- what a loop over the instructions goes by
 

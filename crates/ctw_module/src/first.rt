@@ -9,11 +9,17 @@ use crate::view::{Module, viewed};
 use ctw_ops::{FuncType, Label, Trust, ValType, Width};
 
 const HEADER: [u8; 8] = [0x00, 0x61, 0x73, 0x6D, 0x01, 0x00, 0x43, 0x54];
+
 const TYPE_ENTRY: [u8; 2] = [0x01, 0x60];
+
 const FUNCTION_SECTION: [u8; 4] = [0x03, 0x02, 0x01, 0x00];
+
 const ONE: [u8; 1] = [0x01];
+
 const NO_LOCALS: [u8; 1] = [0x00];
+
 const END: [u8; 1] = [0x0B];
+
 const FUNCTION_ZERO: [u8; 2] = [0x00, 0x00];
 
 /// The type of 32 bits that a byte stands for.
@@ -154,5 +160,4 @@ pub fn first_form<'a>(bytes: &'a [u8]) -> Option<Module<'a>>
 pub fn first_form_is_exact()
     ensures exact { (bytes : List ℕ) (f : FirstForm) → (first_form_of bytes ≡ Some f) ↔ IsFirstForm bytes f }
     ensures once { (bytes : List ℕ) (f g : FirstForm) → IsFirstForm bytes f → IsFirstForm bytes g → f ≡ g }
-{
-}
+{}

@@ -8,6 +8,8 @@ mod straight;
 mod view;
 
 pub use first::{first_form, first_form_is_exact};
-
 pub use straight::{StraightInstr, StraightOp};
 pub use view::Module;
+
+#[cfg(test)]
+mod tests;

@@ -15,11 +15,12 @@ loop-rest-preserved c =
     let said = sym c.in-Some.ensures in
     let pushed : c.push.new.self.items ≡ c.loop-rest.instructions.items ++ first ∷ [] = c.in_ok-push-in-Some.ensures.items in
     let shorter = instruction_shorter c.loop-rest.rest.now (leaf_of first, after) said in
-    let kept = c.loop-rest.invariant.1 in
-    (ap (λ items. option_map (λ others. map leaf_of items ++ others) (leaves after)) pushed
-      ∙ decoded_next c.loop-rest.instructions.items first c.loop-rest.rest.now after said
-      ∙ c.loop-rest.invariant.0,
-    omega (arith, ap length pushed, length-append c.loop-rest.instructions.items (first ∷ [])))
+    let kept = c.loop-rest.invariant.1 in (
+      ap (λ items. option_map (λ others. map leaf_of items ++ others) (leaves after)) pushed
+          ∙ decoded_next c.loop-rest.instructions.items first c.loop-rest.rest.now after said
+          ∙ c.loop-rest.invariant.0,
+      omega (arith, ap length pushed, length-append c.loop-rest.instructions.items (first ∷ [])),
+    )
 
 pub unreachable-requires : goal.unreachable-requires
 unreachable-requires c = decoded_stuck c.loop-rest.instructions.items c.loop-rest.rest.now c.args.bytes.now c.loop-rest.invariant.0 (search rules) (sym c.in-None.ensures) (search rules)
