@@ -1,5 +1,5 @@
 -- The reader of the first form gives what the bytes spell, and nothing else.
-use Rattle.std.proofs.Common.{◌≡◌, ℕ, suc, ◌+◌, ◌-◌, ◌<◌, ◌≤◌, ◌↔◌, Bool, true, false, ◌&&◌, ◌||◌, ◌==◌, cond, List, [], ◌∷◌, ◌++◌, length, take, drop, map, Option, Some, None, option_map, refl, sym, ap, ◌∙◌, subst, arith, rules, length-append, All, IfSome, nat_lt, nat_le}
+use Rattle.std.proofs.Common.{◌≡◌, ℕ, ◌<◌, Bool, true, false, ◌&&◌, cond, List, [], ◌∷◌, ◌++◌, length, map, Option, Some, None, option_map, refl, sym, ap, ◌∙◌, subst, arith, length-append, All, IfSome, nat_lt}
 use Rattle.std.specs.List.{list_all, AllByRecursion}
 use Rattle.std.specs.Str.{bytes_eq}
 use Rattle.std.proofs.lemmas.Bool.Decides.{nat_tests}
@@ -8,12 +8,12 @@ use Rattle.std.proofs.lemmas.List.{append_assoc, append-nil}
 use Rattle.std.proofs.lemmas.List.Elements.{All-from_recursion, recursion_from_All}
 use Rattle.ctw_ops.specs.declared.types.Label.{Label}
 use Rattle.ctw_ops.specs.declared.types.Trust.TheVariants.{Untrusted}
-use Rattle.ctw_ops.specs.Types.{ValueType, FunctionType, value_type, byte_types, type_byte}
+use Rattle.ctw_ops.specs.Types.{ValueType, FunctionType, byte_types, type_byte}
 use Rattle.ctw_ops.specs.Typing.{optional}
 use Rattle.ctw_ops.specs.Code.{Leaf}
-use Rattle.ctw_module.specs.FirstForm.{FirstForm, IsFirstForm, IsCode, IsNarrow, counted, header, type_contents, export_contents, entry, code_contents, spelling}
-use Rattle.ctw_module.specs.FirstReader.{and_then, behind, before, sized, alone, section, is_narrow_byte, narrow_type, result_type, with_params, signature, opening, exported, entry_code, body_code, leaves, form, first_form_of}
-use Rattle.ctw_module.proofs.Parts.{got, mapped, chosen, both, behind_sound, behind_front, before_sound, before_front, sized_sound, sized_front, alone_is, section_sound, section_front, params_sound, params_front, result_sound, result_front}
+use Rattle.ctw_module.specs.FirstForm.{FirstForm, IsFirstForm, IsCode, IsNarrow, counted, header, type_contents, export_contents, entry, code_contents}
+use Rattle.ctw_module.specs.FirstReader.{and_then, behind, before, sized, alone, section, is_narrow_byte, result_type, signature, opening, exported, entry_code, body_code, leaves, form, first_form_of}
+use Rattle.ctw_module.proofs.Parts.{both, behind_sound, behind_front, before_sound, before_front, sized_sound, sized_front, alone_is, section_sound, section_front, params_sound, params_front, result_sound, result_front}
 use Rattle.ctw_module.proofs.Instructions.{leaves_sound, leaves_front}
 
 -- the contents of a type section, of a type

@@ -1,18 +1,17 @@
 -- What the small readers of the first form give, both ways.
-use Rattle.std.proofs.Common.{◌≡◌, ℕ, suc, ◌+◌, ◌-◌, ◌<◌, ◌≤◌, Bool, true, false, ◌&&◌, ◌||◌, ◌==◌, cond, List, [], ◌∷◌, ◌++◌, length, take, drop, map, Option, Some, None, option_map, refl, sym, ap, ◌∙◌, subst, inl, inr, ◌⊎◌, arith, rules, length-append, length-take, All, nat_lt, nat_le}
+use Rattle.std.proofs.Common.{◌≡◌, ℕ, ◌-◌, ◌<◌, ◌≤◌, Bool, true, false, ◌&&◌, ◌==◌, cond, List, [], ◌∷◌, ◌++◌, length, take, drop, map, Option, Some, None, option_map, refl, sym, ap, ◌∙◌, inl, inr, ◌⊎◌, arith, length-append, nat_lt, nat_le}
 use Rattle.std.specs.List.{list_all, AllByRecursion}
 use Rattle.std.specs.Str.{bytes_eq}
 use Rattle.std.proofs.lemmas.Bool.Decides.{nat_tests}
 use Rattle.std.proofs.lemmas.Slice.Eq.{bytes_eq-Decides}
 use Rattle.std.proofs.lemmas.List.{take-append-drop, take_at, drop_at, length-take-le}
-use Rattle.std.proofs.lemmas.List.Elements.{All-from_recursion, recursion_from_All}
 use Rattle.ctw_ops.specs.declared.types.Label.{Label}
 use Rattle.ctw_ops.specs.declared.types.Label.TheVariants.{Public, Secret}
 use Rattle.ctw_ops.specs.declared.types.Width.{Width}
 use Rattle.ctw_ops.specs.declared.types.Width.TheVariants.{W32, W64}
-use Rattle.ctw_ops.specs.Types.{ValueType, FunctionType, value_type, byte_types, type_byte}
+use Rattle.ctw_ops.specs.Types.{ValueType, value_type, byte_types, type_byte}
 use Rattle.ctw_ops.specs.Typing.{optional}
-use Rattle.ctw_module.specs.FirstForm.{FirstForm, counted, IsNarrow}
+use Rattle.ctw_module.specs.FirstForm.{counted, IsNarrow}
 use Rattle.ctw_module.specs.FirstReader.{and_then, behind, before, small, sized, alone, section, is_narrow_byte, narrow_type, result_type}
 
 pub got : {A B : Type 0} (o : Option A) (next : A → Option B) (b : B) → and_then o next ≡ Some b → (a : A) × (o ≡ Some a) × (next a ≡ Some b)

@@ -1,6 +1,6 @@
 -- The first form of module: one untrusted function of 32-bit numbers without declared locals, exported under an ASCII name.
 -- Each size, count and index is one byte below 80 (hexadecimal), so a first form has one spelling (W3C WebAssembly Core 1.0, section 5, in part).
-use Rattle.std.specs.Prelude.{◌≡◌, ℕ, ◌+◌, ◌<◌, Bool, true, ◌||◌, ◌==◌, List, [], ◌∷◌, ◌++◌, length, map, Option, Some, None, nat_lt, if◌then◌else◌, All}
+use Rattle.std.specs.Prelude.{◌≡◌, ℕ, ◌+◌, ◌<◌, Bool, true, ◌||◌, ◌==◌, List, [], ◌∷◌, ◌++◌, length, map, Option, nat_lt, if◌then◌else◌, All}
 use Rattle.ctw_ops.specs.declared.types.Label.{Label}
 use Rattle.ctw_ops.specs.declared.types.Label.TheVariants.{Public, Secret}
 use Rattle.ctw_ops.specs.declared.types.Width.TheVariants.{W32}

@@ -4,7 +4,7 @@ use Rattle.ctw_ops.specs.declared.types.Label.{Label}
 use Rattle.ctw_ops.specs.declared.types.Trust.TheVariants.{Untrusted}
 use Rattle.ctw_ops.specs.declared.types.ExternTag.TheVariants.{Func}
 use Rattle.ctw_ops.specs.Code.{straight}
-use Rattle.ctw_ops.specs.Tree.{Module, Export}
+use Rattle.ctw_ops.specs.Tree.{Module}
 use Rattle.ctw_module.specs.FirstForm.{FirstForm}
 
 -- one untrusted type, one function of it, and its export

@@ -1,4 +1,4 @@
-use Rattle.std.proofs.Common.{◌≡◌, ◌+◌, ◌<◌, ◌++◌, ◌∷◌, [], length, length-append, map, option_map, sym, ap, ◌∙◌, arith, rules}
+use Rattle.std.proofs.Common.{◌≡◌, ◌++◌, ◌∷◌, [], length, length-append, map, option_map, sym, ap, ◌∙◌, arith, rules}
 use Rattle.ctw_module.specs.FirstReader.{leaves}
 use Rattle.ctw_module.specs.Straight.{leaf_of}
 use Rattle.ctw_module.proofs.Instructions.{instruction_shorter}

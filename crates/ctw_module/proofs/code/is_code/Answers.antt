@@ -1,4 +1,4 @@
-use Rattle.std.proofs.Common.{◌≡◌, ◌+◌, ◌<◌, length, sym, ◌∙◌, arith, rules}
+use Rattle.std.proofs.Common.{sym, ◌∙◌, rules}
 use Rattle.ctw_module.specs.Straight.{leaf_of}
 use Rattle.ctw_module.proofs.Instructions.{instruction_shorter}
 use Rattle.ctw_module.proofs.Loops.{code_next, code_stuck, code_end}
