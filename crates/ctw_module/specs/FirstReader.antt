@@ -10,6 +10,7 @@ use Rattle.ctw_ops.specs.Types.{ValueType, FunctionType, value_type, byte_types}
 use Rattle.ctw_ops.specs.Code.{Leaf, Drop, LocalGet, LocalSet, LocalTee, Const, Numeric, Classify}
 use Rattle.ctw_module.specs.FirstForm.{FirstForm, is_straight_operation, small_bits, header}
 
+-- what comes next, where there is an answer
 abbrev pub and_then : {A B : Type 0} → Option A → (A → Option B) → Option B
 and_then answer next = option_and_then next answer
 
@@ -35,6 +36,7 @@ sized bytes =
     and_then (small bytes) (λ size.
     if nat_le size.0 (length size.1) then Some (take size.0 size.1, drop size.0 size.1) else None)
 
+-- a part, where nothing follows it
 abbrev pub alone : List ℕ × List ℕ → Option (List ℕ)
 alone part = none_after part.1
   where
@@ -48,9 +50,11 @@ section id bytes = and_then (behind (id ∷ []) bytes) sized
 
 -- ---- the type
 
+-- the bytes of types of 32 bits
 abbrev pub is_narrow_byte : ℕ → Bool
 is_narrow_byte byte = byte == 0x7F || byte == 0x7A
 
+-- the type of 32 bits of a byte
 unfoldable pub narrow_type : ℕ → Option (ValueType Label)
 narrow_type byte =
     if byte == 0x7F then Some (value_type W32 Public)
@@ -63,6 +67,7 @@ result_type [] = Some None
 result_type (byte ∷ []) = option_map Some (narrow_type byte)
 result_type (_ ∷ _ ∷ _) = None
 
+-- the type, where the parameters have 32 bits
 abbrev pub with_params : List ℕ → Option (ValueType Label) → Option (FunctionType Label)
 with_params params result =
     if list_all is_narrow_byte params then Some (record { trust = Untrusted; params = byte_types params; result = result }) else None
@@ -106,6 +111,8 @@ body_code contents =
     and_then (sized entries) (λ entry.
     and_then (alone entry) entry_code))
 
+-- ---- instructions
+
 -- the leaf that a number makes
 abbrev pub leaf_with : (ℕ → Leaf Label) → Option (ℕ × List ℕ) → Option (Leaf Label × List ℕ)
 leaf_with make number = option_map (λ n. (make n.0, n.1)) number
@@ -118,6 +125,7 @@ labelled l (op ∷ rest) =
     else if is_straight_operation op then Some (Numeric op l, rest)
     else None
 
+-- the first instruction
 unfoldable pub instruction : List ℕ → Option (Leaf Label × List ℕ)
 instruction [] = None
 instruction (op ∷ rest) =
@@ -136,14 +144,17 @@ instructions zero (byte ∷ bytes) = None
 instructions (suc limit) (byte ∷ bytes) =
     and_then (instruction (byte ∷ bytes)) (λ first. option_map (λ others. first.0 ∷ others) (instructions limit first.1))
 
+-- instructions, one after another
 unfoldable pub leaves : List ℕ → Option (List (Leaf Label))
 leaves bytes = instructions (length bytes) bytes
 
 -- ---- the whole
 
+-- the form of these parts
 abbrev pub form : FunctionType Label → List ℕ → List (Leaf Label) → FirstForm
 form type name code = record { params = type.params; result = type.result; name = name; code = code }
 
+-- the form that the bytes spell, with nothing before, between or after
 unfoldable pub first_form_of : List ℕ → Option FirstForm
 first_form_of bytes =
     and_then (opening bytes) (λ type.
