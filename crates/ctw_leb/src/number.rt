@@ -1,0 +1,53 @@
+ghost use Rattle.std.specs.Prelude.{◌≡◌, ◌*◌, ◌<◌, ◌≤◌, ◌^◌, IfOk, length};
+ghost use Rattle.ctw_leb.specs.Readers.{ending, number_at};
+ghost use Rattle.ctw_leb.specs.Calls.{Gives};
+
+use crate::fault::Cause;
+
+#[tactic(auto, unfolding(crate::specs::Readers::number_at))]
+/// The number at the front, below twice `half`, and the bytes behind it.
+pub fn number(bytes: &[u8], half: u64, signed: bool) -> Result<(u64, &[u8]), Cause>
+    requires { half ≤ 2 ^ 63 }
+    ensures value { Gives (λ x. (x.0, x.1.now)) result (number_at (ending signed) half bytes.now) }
+    ensures length { IfOk result (λ x. length x.1.now ≤ length bytes.now) }
+    ensures below { IfOk result (λ x. x.0 < 2 * half) }
+{
+    match bytes {
+        [] => Err(Cause::Short),
+        [byte, rest @ ..] => {
+            let byte = u64::from(*byte);
+            if byte < 128 {
+                match last(byte, half, signed) {
+                    Some(n) => Ok((n, rest)),
+                    None => Err(Cause::Illegal),
+                }
+            } else if half < 128 {
+                Err(Cause::Illegal)
+            } else {
+                let (high, rest) = number(rest, half / 128, signed)?;
+                Ok((byte - 128 + 128 * high, rest))
+            }
+        }
+    }
+}
+
+/// What the last byte stands for.
+fn last(byte: u64, half: u64, signed: bool) -> Option<u64>
+    requires byte { byte < 128 }
+    requires half { half ≤ 2 ^ 63 }
+    ensures { result ≡ ending signed half byte }
+{
+    if signed {
+        if byte < 64 {
+            (byte < half).then_some(byte)
+        } else if 128 <= byte + half {
+            Some(half - (128 - byte) + half)
+        } else {
+            None
+        }
+    } else if byte / 2 < half {
+        Some(byte)
+    } else {
+        None
+    }
+}
