@@ -2,7 +2,7 @@
 use Rattle.std.proofs.Common.{◌≡◌, ℕ, Bool, true, false, cond, ◌⊎◌, inl, inr, List, [], ◌∷◌, ◌++◌, Result, Ok, Err, refl, sym, ap, ◌∙◌}
 use Rattle.std.proofs.lemmas.List.{append_cancel_right}
 use Rattle.ctw_leb.specs.Input.{Input, behind}
-use Rattle.ctw_leb.specs.Grammar.{Grammar, Begins, EndsInside}
+use Rattle.ctw_leb.specs.Grammar.{Grammar}
 use Rattle.ctw_leb.specs.Reading.{Reader, WholeReader, Exact, Whole, chain}
 
 -- an answer with a value and one with a fault, at a type that is known

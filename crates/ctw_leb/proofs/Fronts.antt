@@ -5,7 +5,7 @@ use Rattle.std.proofs.lemmas.List.{append-nil}
 use Rattle.ctw_leb.specs.declared.fault.LebFault.{LebFault}
 use Rattle.ctw_leb.specs.declared.fault.LebFault.TheVariants.{Truncated, BadLeb}
 use Rattle.ctw_leb.specs.Input.{Input, behind}
-use Rattle.ctw_leb.specs.Grammar.{Grammar, Begins, EndsInside, BeginsNone}
+use Rattle.ctw_leb.specs.Grammar.{Grammar, EndsInside, BeginsNone}
 use Rattle.ctw_leb.specs.Reading.{Reader, Exact}
 use Rattle.ctw_leb.specs.Calls.{Reads, ReadsNumber}
 use Rattle.ctw_leb.proofs.Exact.{ok_is, err_is, err_ok, ok_err, one_begins}
@@ -16,9 +16,9 @@ pub record ExactNumber {A : Type 0} (G : Grammar A) (r : Reader A LebFault) : Ty
   pub truncated : (i : Input) → (r i ≡ Err Truncated) ↔ EndsInside G i.rest
   pub only : (i : Input) (e : LebFault) → r i ≡ Err e → (e ≡ Truncated) ⊎ (e ≡ BadLeb i.at)
 
--- bytes that begin a spelling are read
-pub begins_read : {A F : Type 0} (G : Grammar A) (r : Reader A F) → Exact G r → (i : Input) → (h : Begins G i.rest) → r i ≡ Ok (h.2, behind i.at h.0 h.1)
-begins_read G r exact i h = ap (λ (l : List ℕ). r (record { at = i.at; rest = l })) h.4 ∙ exact.complete h.0 h.1 i.at h.2 h.3
+-- a spelling at the front is read
+pub spelled_read : {A F : Type 0} (G : Grammar A) (r : Reader A F) → Exact G r → (i : Input) (text after : List ℕ) (a : A) → G text a → i.rest ≡ text ++ after → r i ≡ Ok (a, behind i.at text after)
+spelled_read G r exact i text after a m e = ap (λ (l : List ℕ). r (record { at = i.at; rest = l })) e ∙ exact.complete text after i.at a m
 
 truncated_bad : {A : Type 0} (p : ℕ) → ◌≡◌ {A = Result A LebFault} (Err Truncated) (Err (BadLeb p)) → ⊥
 truncated_bad p e = cc
@@ -27,7 +27,7 @@ truncated_bad p e = cc
 bad_begins_none : {A : Type 0} (G : Grammar A) (r : Reader A LebFault) → ExactNumber G r → (i : Input) → r i ≡ Err (BadLeb i.at) → BeginsNone G i.rest
 bad_begins_none {A} G r laws i e more text after a m q =
     elim (one_begins i.rest more text after q) [
-      | inl h ↦ absurd (ok_err (a, behind i.at text h.0) (BadLeb i.at) (sym (begins_read G r laws.exact i (text, h.0, a, m, h.1)) ∙ e))
+      | inl h ↦ absurd (ok_err (a, behind i.at text h.0) (BadLeb i.at) (sym (spelled_read G r laws.exact i text h.0 a m h.1) ∙ e))
       | inr h ↦
           let inside : EndsInside G i.rest = (h.0, h.1, a, subst (λ (l : List ℕ). G l a) h.2 m) in
           absurd (truncated_bad {A = A × Input} i.at (sym ((laws.truncated i).1 inside) ∙ e))
@@ -66,7 +66,7 @@ pub reads_number : {A : Type 0} (G : Grammar A) (r : Reader A LebFault) → Exac
     → ReadsNumber G result old new
 reads_number {A} G r laws result old new h = record {
   value = value_of G r laws result old new h;
-  found = (found_begins result h, begins_found result h);
+  found = found result h;
   truncated = trans (answered r result old new Truncated h) (laws.truncated old);
   bad = trans (answered r result old new (BadLeb old.at) h) (bad_exactly G r laws old);
   only = only result h;
@@ -76,15 +76,11 @@ reads_number {A} G r laws result old new h = record {
     trans : {P Q R : Type 0} → P ↔ Q → Q ↔ R → P ↔ R
     trans f g = (λ p. g.0 (f.0 p), λ q. f.1 (g.1 q))
 
-    found_begins : (a : Result A LebFault) → Reads a old new (r old) → IsOk a → Begins G old.rest
-    found_begins (Ok x) q ok =
-        let s = laws.exact.sound old x new q in
-        (s.0, new.rest, x, s.1, s.2)
-    found_begins (Err e) q ok = absurd (search rules)
-
-    begins_found : (a : Result A LebFault) → Reads a old new (r old) → Begins G old.rest → IsOk a
-    begins_found (Ok x) q b = search rules
-    begins_found (Err e) q b = absurd (err_ok e (b.2, behind old.at b.0 b.1) (sym q.0 ∙ begins_read G r laws.exact old b))
+    found : (a : Result A LebFault) → Reads a old new (r old) → (text after : List ℕ) (n : A) → G text n → old.rest ≡ text ++ after → (a ≡ Ok n) × (new ≡ behind old.at text after)
+    found (Ok x) q text after n m e =
+        let p : (x, new) ≡ (n, behind old.at text after) = ok_is {F = LebFault} (x, new) (n, behind old.at text after) (sym q ∙ spelled_read G r laws.exact old text after n m e) in
+        (ap (λ (z : A × Input). Ok z.0) p, ap (λ (z : A × Input). z.1) p)
+    found (Err d) q text after n m e = absurd (err_ok d (n, behind old.at text after) (sym q.0 ∙ spelled_read G r laws.exact old text after n m e))
 
     only : (a : Result A LebFault) → Reads a old new (r old) → IfErr a (λ e. (e ≡ Truncated) ⊎ (e ≡ BadLeb old.at))
     only (Ok x) q = search rules

@@ -5,3 +5,5 @@ pub mod Fronts
 pub mod Widths
 pub mod Combinators
 pub mod Loops
+pub mod Spelling
+pub mod Names

@@ -67,7 +67,10 @@ times_from_length {S} {A} {F} r next zero s i l o e = ap (λ (z : List A × Inpu
 times_from_length {S} {A} {F} r next (suc n) s i l o e =
     let c = chain_ok (r s i) (λ x. chain (times_from r next n (next s x.0) x.1) (λ y. Ok (x.0 ∷ y.0, y.1))) (l, o) e in
     let d = chain_ok (times_from r next n (next s c.0.0) c.0.1) (λ y. Ok (c.0.0 ∷ y.0, y.1)) (l, o) c.2 in
-    ap (λ (z : List A × Input). length z.0) (sym (ok_is {F = F} (c.0.0 ∷ d.0.0, d.0.1) (l, o) d.2)) ∙ ap suc (times_from_length r next n (next s c.0.0) c.0.1 d.0.0 d.0.1 d.1)
+    let q : (c.0.0 ∷ d.0.0, d.0.1) ≡ (l, o) = ok_is {F = F} (c.0.0 ∷ d.0.0, d.0.1) (l, o) d.2 in
+    let longer : length l ≡ suc (length d.0.0) = ap (λ (z : List A × Input). length z.0) (sym q) in
+    let again : length d.0.0 ≡ n = times_from_length r next n (next s c.0.0) c.0.1 d.0.0 d.0.1 d.1 in
+    longer ∙ ap suc again
 
 -- where none are left, all were read
 pub left_from_none : {S A F : Type 0} (r : S → Reader A F) (next : S → A → S) (n : ℕ) (first : S) (start : Input) (k : ℕ) (s : S) (now : Input)

@@ -12,16 +12,16 @@ use Rattle.ctw_leb.proofs.Exact.{chosen}
 use Rattle.ctw_leb.proofs.Numbers.{IsNumber}
 
 -- seven bits more
-seven_more : (m : ℕ) → 7 ≤ m → 2 ^ m ≡ 128 * 2 ^ (m - 7)
+pub seven_more : (m : ℕ) → 7 ≤ m → 2 ^ m ≡ 128 * 2 ^ (m - 7)
 seven_more m le =
     let same : m ≡ 7 + (m - 7) = omega arith in
     ap (λ (k : ℕ). 2 ^ k) same ∙ pow-add 2 7 (m - 7)
 
 -- a half that more than seven bits fit into
-large_half : (m : ℕ) → 7 ≤ m → 128 ≤ 2 ^ m
+pub large_half : (m : ℕ) → 7 ≤ m → 128 ≤ 2 ^ m
 large_half m le = pow_mono le
 
-small_half : (m : ℕ) → 128 ≤ 2 ^ m → 7 ≤ m
+pub small_half : (m : ℕ) → 64 < 2 ^ m → 7 ≤ m
 small_half m le =
     elim (cases_lt m 7) [
       | inl lt ↦ let le6 : m ≤ 6 = omega arith in
@@ -33,10 +33,10 @@ small_half m le =
 pub less_half : (m half : ℕ) → 7 ≤ m → half ≡ 2 ^ m → half / 128 ≡ 2 ^ (m - 7)
 less_half m half le e = omega (arith, e, seven_more m le)
 
-unsigned_ends : (half b : ℕ) → b < 2 * half → unsigned_end half b ≡ Some b
+pub unsigned_ends : (half b : ℕ) → b < 2 * half → unsigned_end half b ≡ Some b
 unsigned_ends half b lt = rw (lt-ltb (b / 2) half (omega arith)) refl
 
-double : (m : ℕ) → 2 ^ suc m ≡ 2 * 2 ^ m
+pub double : (m : ℕ) → 2 ^ suc m ≡ 2 * 2 ^ m
 double m = pow-succ' 2 m
 
 pub number_from_unsigned : (m half : ℕ) (text : List ℕ) (n : ℕ) → half ≡ 2 ^ m → IsUnsigned (suc m) text n → IsNumber unsigned_end half text n
@@ -48,14 +48,14 @@ number_from_unsigned m half (b ∷ c ∷ bs) n e h =
     let below : IsUnsigned (suc (m - 7)) (c ∷ bs) h.3 = subst (λ (k : ℕ). IsUnsigned k (c ∷ bs) h.3) bits h.4 in
     (h.0, h.1, omega (arith, e, large_half m le), h.3, omega (arith, h.5), number_from_unsigned (m - 7) (half / 128) (c ∷ bs) h.3 (less_half m half le e) below)
 
-some_is : (x y : ℕ) → Some x ≡ Some y → y ≡ x
+pub some_is : (x y : ℕ) → Some x ≡ Some y → y ≡ x
 some_is x y q = cc
 
-none_some : (x : ℕ) → None ≡ Some x → ⊥
+pub none_some : (x : ℕ) → None ≡ Some x → ⊥
 none_some x q = cc
 
 -- which test an unsigned last byte passed
-unsigned_end_is : (half b n : ℕ) → unsigned_end half b ≡ Some n → (b / 2 < half) × (n ≡ b)
+pub unsigned_end_is : (half b n : ℕ) → unsigned_end half b ≡ Some n → (b / 2 < half) × (n ≡ b)
 unsigned_end_is half b n e =
     elim (chosen (ltb (b / 2) half) (Some b) None (Some n) e) [
       | inl p ↦ (ltb-true (b / 2) half p.0, some_is b n p.1)
@@ -98,10 +98,10 @@ above_pos k b = omega (arith, ints)
 above_negsuc : (k b : ℕ) → 128 ≤ b → b < 256 → (pos 128 *ℤ negsuc k) +ℤ pos (b - 128) ≡ negsuc (128 * k + (255 - b))
 above_negsuc k b le lt = omega (arith, ints)
 
-signed_ends_low : (half b : ℕ) → b < 64 → b < half → signed_end half b ≡ Some b
+pub signed_ends_low : (half b : ℕ) → b < 64 → b < half → signed_end half b ≡ Some b
 signed_ends_low half b low lt = rw (lt-ltb b 64 low, lt-ltb b half lt) refl
 
-signed_ends_high : (half b : ℕ) → 64 ≤ b → 128 ≤ b + half → signed_end half b ≡ Some (half - (128 - b) + half)
+pub signed_ends_high : (half b : ℕ) → 64 ≤ b → 128 ≤ b + half → signed_end half b ≡ Some (half - (128 - b) + half)
 signed_ends_high half b high le = rw (le-ltb b 64 high, le-leb 128 (b + half) le) refl
 
 -- the last byte
@@ -141,19 +141,27 @@ number_from_signed m half (b ∷ c ∷ bs) z e h =
     ((h.0, h.1, omega (arith, e, large_half m le), bits_of (half / 128) h.3, made.0, again.0), made.1)
 
 -- which tests a signed last byte passed
-signed_end_is : (m half b n : ℕ) → half ≡ 2 ^ m → b < 128 → signed_end half b ≡ Some n → IsSignedEnd (suc m) b (number_of half n) × (n < 2 * half)
-signed_end_is m half b n e lt q =
+pub signed_end_tests : (half b n : ℕ) → signed_end half b ≡ Some n → ((b < 64) × (b < half) × (n ≡ b)) ⊎ ((64 ≤ b) × (128 ≤ b + half) × (n ≡ half - (128 - b) + half))
+signed_end_tests half b n q =
     elim (chosen (ltb b 64) (cond (ltb b half) (Some b) None) (cond (leb 128 (b + half)) (Some (half - (128 - b) + half)) None) (Some n) q) [
       | inl p ↦
           elim (chosen (ltb b half) (Some b) None (Some n) p.1) [
-            | inl r ↦ low (ltb-true b 64 p.0) (ltb-true b half r.0) (some_is b n r.1)
+            | inl r ↦ inl (ltb-true b 64 p.0, ltb-true b half r.0, some_is b n r.1)
             | inr r ↦ absurd (none_some n r.1)
           ]
       | inr p ↦
           elim (chosen (leb 128 (b + half)) (Some (half - (128 - b) + half)) None (Some n) p.1) [
-            | inl r ↦ high (ltb-false b 64 p.0) (leb-true 128 (b + half) r.0) (some_is (half - (128 - b) + half) n r.1)
+            | inl r ↦ inr (ltb-false b 64 p.0, leb-true 128 (b + half) r.0, some_is (half - (128 - b) + half) n r.1)
             | inr r ↦ absurd (none_some n r.1)
           ]
+    ]
+
+-- the number that a last byte ends
+signed_end_is : (m half b n : ℕ) → half ≡ 2 ^ m → b < 128 → signed_end half b ≡ Some n → IsSignedEnd (suc m) b (number_of half n) × (n < 2 * half)
+signed_end_is m half b n e lt q =
+    elim (signed_end_tests half b n q) [
+      | inl t ↦ low t.0 t.1 t.2
+      | inr t ↦ high t.0 t.1 t.2
     ]
   where
     bits : suc m - 1 ≡ m
@@ -202,3 +210,11 @@ signed_from_number m half (b ∷ c ∷ bs) n e h =
     let again = signed_from_number (m - 7) (half / 128) (c ∷ bs) h.3 less h.5 in
     let made = signed_end_more half b h.3 n h.0 h.1 whole again.1 h.4 in
     ((h.0, h.1, omega (arith, le), number_of (half / 128) h.3, subst (λ (k : ℕ). IsSigned k (c ∷ bs) (number_of (half / 128) h.3)) bits again.0, made.0), made.1)
+
+-- a number's bits are those of that number
+pub number_of-bits_of : (half : ℕ) (z : ℤ) → FitsHalf half z → number_of half (bits_of half z) ≡ z
+number_of-bits_of half (pos k) fits = rw (lt-ltb k half fits) refl
+number_of-bits_of half (negsuc k) fits =
+    let above : half ≤ 2 * half - suc k = omega arith in
+    let same : 2 * half - suc (2 * half - suc k) ≡ k = omega arith in
+    rw (le-ltb (2 * half - suc k) half above) (ap (λ (j : ℕ). negsuc j) same)

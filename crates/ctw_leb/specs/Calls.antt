@@ -1,9 +1,9 @@
 -- What a call on a cursor answered, and where it left the cursor.
-use Rattle.std.specs.Prelude.{◌≡◌, ◌≢◌, ℕ, ◌+◌, ◌⊎◌, ◌↔◌, List, ◌++◌, length, Result, Ok, Err, IfOk, IfErr, OnErr, IsOk, IsUtf8}
+use Rattle.std.specs.Prelude.{◌≡◌, ℕ, ◌+◌, ◌⊎◌, ◌↔◌, List, ◌++◌, length, Result, Ok, Err, IfOk, IfErr, OnErr, IsOk, IsUtf8}
 use Rattle.ctw_leb.specs.declared.fault.LebFault.{LebFault}
 use Rattle.ctw_leb.specs.declared.fault.LebFault.TheVariants.{Truncated, BadLeb, BadUtf8}
-use Rattle.ctw_leb.specs.Input.{Input}
-use Rattle.ctw_leb.specs.Grammar.{Grammar, Begins, EndsInside, BeginsNone}
+use Rattle.ctw_leb.specs.Input.{Input, behind}
+use Rattle.ctw_leb.specs.Grammar.{Grammar, EndsInside, BeginsNone}
 use Rattle.ctw_leb.specs.Numbers.{IsU32}
 use Rattle.ctw_leb.specs.Vectors.{IsByteVector, IsName}
 
@@ -37,7 +37,7 @@ Passes G a old new = (text : List ℕ) × G text a × (old.rest ≡ text ++ new.
 -- What a call that reads a number answers, by the grammar alone.
 pub record ReadsNumber {X : Type 0} (G : Grammar X) (result : Result X LebFault) (old new : Input) : Type 0 where
   pub value : IfOk result (λ n. Passes G n old new)
-  pub found : IsOk result ↔ Begins G old.rest
+  pub found : (text after : List ℕ) (n : X) → G text n → old.rest ≡ text ++ after → (result ≡ Ok n) × (new ≡ behind old.at text after)
   pub truncated : (result ≡ Err Truncated) ↔ EndsInside G old.rest
   pub bad : (result ≡ Err (BadLeb old.at)) ↔ BeginsNone G old.rest
   pub only : IfErr result (λ e. (e ≡ Truncated) ⊎ (e ≡ BadLeb old.at))
@@ -49,14 +49,10 @@ IsBadText i place = (n : ℕ) × (size text after : List ℕ) × IsU32 size n ×
 
 -- What a call that reads a name answers, by the grammar alone.
 pub record ReadsName {X : Type 0} (bytes : X → List ℕ) (result : Result X LebFault) (old new : Input) : Type 0 where
-  pub value : IfOk result (λ text. Passes IsName (bytes text) old new)
-  pub found : IsOk result ↔ Begins IsName old.rest
+  pub value : IfOk result (λ x. Passes IsName (bytes x) old new)
+  pub found : (text after name : List ℕ) → IsName text name → old.rest ≡ text ++ after → IfOk result (λ x. bytes x ≡ name) × IsOk result × (new ≡ behind old.at text after)
   pub truncated : (result ≡ Err Truncated) ↔ EndsInside IsByteVector old.rest
   pub bad_size : (result ≡ Err (BadLeb old.at)) ↔ BeginsNone IsU32 old.rest
   pub bad_text : (place : ℕ) → (result ≡ Err (BadUtf8 place)) ↔ IsBadText old place
-  pub only : IfErr result (λ e. (e ≡ Truncated) ⊎ (e ≡ BadLeb old.at) ⊎ (place : ℕ) × (e ≡ BadUtf8 place))
+  pub only : IfErr result (λ e. (e ≡ Truncated) ⊎ ((e ≡ BadLeb old.at) ⊎ ((place : ℕ) × (e ≡ BadUtf8 place))))
   pub kept : OnErr result (new ≡ old)
-
--- What a call that takes n bytes answers.
-pub record TakesBytes {X : Type 0} (bytes : X → List ℕ) (n : ℕ) (result : Result X LebFault) (old new : Input) : Type 0 where
-  pub value : IfOk result (λ x. (old.rest ≡ bytes x ++ new.rest) × (length (bytes x) ≡ n) × (new.at ≡ old.at + n))

@@ -57,10 +57,6 @@ Passing test G text a = G text a × (test a ≡ true)
 abbrev pub Mapped : {A B : Type 0} → (A → B) → Grammar A → Grammar B
 Mapped {A} f G text b = (a : A) × G text a × (f a ≡ b)
 
--- a spelling stands at the front
-abbrev pub Begins : {A : Type 0} → Grammar A → List ℕ → Type 0
-Begins {A} G bytes = (text after : List ℕ) × (a : A) × G text a × (bytes ≡ text ++ after)
-
 -- the bytes end inside a spelling
 abbrev pub EndsInside : {A : Type 0} → Grammar A → List ℕ → Type 0
 EndsInside {A} G bytes = (c : ℕ) × (more : List ℕ) × (a : A) × G (bytes ++ c ∷ more) a

@@ -4,6 +4,8 @@
 mod cursor;
 mod fault;
 mod number;
+mod writing;
 
 pub use cursor::Cursor;
 pub use fault::LebFault;
+pub use writing::{put_s64, put_u32};
