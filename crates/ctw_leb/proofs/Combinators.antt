@@ -329,4 +329,3 @@ whole_refused f G r g = record {
   sound = λ i a e. g.sound i a (refused_ok f (r i) a e);
   complete = λ i a m. rw (g.complete i a m) refl;
 }
-

@@ -208,10 +208,13 @@ reads_name {X} bytes result old new h = record {
     value (Ok x) q = exact_name.sound old (bytes x) new q
     value (Err e) q = search rules
 
+    ok : (x : X) → IsOk {E = LebFault} (Ok x)
+    ok x = search rules
+
     found : (a : Result X LebFault) → ReadsAs bytes a old new (name_at old) → (text after name : List ℕ) → IsName text name → old.rest ≡ text ++ after → IfOk a (λ x. bytes x ≡ name) × IsOk a × (new ≡ behind old.at text after)
     found (Ok x) q text after name m e =
         let p : (bytes x, new) ≡ (name, behind old.at text after) = ok_is {F = LebFault} (bytes x, new) (name, behind old.at text after) (sym q ∙ spelled_read IsName name_at exact_name old text after name m e) in
-        (ap (λ (z : List ℕ × Input). z.0) p, search rules, ap (λ (z : List ℕ × Input). z.1) p)
+        (ap (λ (z : List ℕ × Input). z.0) p, ok x, ap (λ (z : List ℕ × Input). z.1) p)
     found (Err d) q text after name m e = absurd (err_ok d (name, behind old.at text after) (sym q.0 ∙ spelled_read IsName name_at exact_name old text after name m e))
 
     only : (a : Result X LebFault) → ReadsAs bytes a old new (name_at old) → IfErr a (λ e. (e ≡ Truncated) ⊎ ((e ≡ BadLeb old.at) ⊎ ((place : ℕ) × (e ≡ BadUtf8 place))))

@@ -1,4 +1,4 @@
-ghost use Rattle.std.specs.Prelude.{◌≡◌, ◌+◌, ◌-◌, ◌*◌, ◌<◌, ◌≤◌, ◌^◌, ◌++◌, ◌↔◌, ℕ, length, pos, negsuc, IfOk, IsOk, OnErr};
+ghost use Rattle.std.specs.Prelude.{◌≡◌, ◌+◌, ◌-◌, ◌*◌, ◌<◌, ◌≤◌, ◌^◌, [], ◌∷◌, ◌++◌, ◌↔◌, ℕ, length, pos, negsuc, IfOk, IsOk, OnErr};
 ghost use Rattle.std.specs.Int.{w32, w64, cast_unsigned};
 ghost use Rattle.ctw_leb.specs.Numbers.{IsU32, IsSigned};
 ghost use Rattle.ctw_leb.specs.Readers.{ending, number_at, placed, byte_at, bytes_at, u32_at, s32_at, s64_at, name_at};
@@ -64,7 +64,9 @@ impl<'a> Cursor<'a> {
     /// Reads one byte, whatever it is. `Truncated` where none is left.
     #[tactic(auto, unfolding(crate::specs::Readers::byte_at))]
     pub fn byte(&mut self) -> Result<u8, LebFault>
-        ensures { Reads result self.old self.new (byte_at self.old) }
+        ensures read { Reads result self.old self.new (byte_at self.old) }
+        ensures value { IfOk result (λ b. (self.old.rest ≡ b ∷ self.new.rest) × (self.new.at ≡ self.old.at + 1)) }
+        ensures truncated { OnErr result ((result ≡ Err LebFault.Truncated) × (self.old.rest ≡ []) × (self.new ≡ self.old)) }
     {
         match self.rest {
             [] => Err(LebFault::Truncated),

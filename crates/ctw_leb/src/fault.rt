@@ -4,13 +4,13 @@ use thiserror::Error;
 #[derive(Clone, Copy, Debug, PartialEq, Eq, Error)]
 pub enum LebFault {
     /// The bytes end inside what was to be read.
-    #[error("the bytes end inside a number, a name or a run of bytes")]
+    #[error("the bytes end too early")]
     Truncated,
     /// The bytes from `place` on begin no legal number.
     #[error("no legal number begins at byte {place}")]
     BadLeb { place: u32 },
     /// The text of a name, which begins at `place`, isn't UTF-8.
-    #[error("the name's text at byte {place} isn't UTF-8")]
+    #[error("the name at byte {place} isn't UTF-8")]
     BadUtf8 { place: u32 },
 }
 

@@ -19,5 +19,9 @@ loop-rest-preserved c =
 pub returns-clause-put : goal.returns-clause-put
 returns-clause-put c =
     let h = c.loop-rest.invariant in
+    let whole : List ℕ = c.args.out.now.items ++ shortest c.args.limit c.args.below 10 c.args.n in
+    let byte : ℕ = c.seven_bits-2.result in
+    let pushed : c.push-2.new.self.items ≡ c.loop-rest.out.items ++ byte ∷ [] = c.in_ok-push-2.ensures.items in
     let last = last_one c.args.limit c.args.below h.0 c.loop-rest.rest c.loop-rest-test.false in
-    c.in_ok-push-2.ensures.items ∙ rw c.seven_bits-2.ensures.value (ap (λ (l : List ℕ). c.loop-rest.out.items ++ l) (sym last) ∙ h.4)
+    let ends : c.loop-rest.out.items ++ byte ∷ [] ≡ whole = rw c.seven_bits-2.ensures.value (ap (λ (l : List ℕ). c.loop-rest.out.items ++ l) (sym last) ∙ h.4) in
+    pushed ∙ ends
