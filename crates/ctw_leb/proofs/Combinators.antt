@@ -1,10 +1,10 @@
 -- Each combinator of readers is exact for that of grammars.
-use Rattle.std.proofs.Common.{◌≡◌, ℕ, zero, suc, ◌+◌, ◌-◌, ◌<◌, ◌≤◌, Bool, true, false, cond, leb, inl, inr, List, [], ◌∷◌, ◌++◌, length, take, drop, Result, Ok, Err, refl, sym, ap, subst, ◌∙◌, append_assoc, arith}
+use Rattle.std.proofs.Common.{◌≡◌, ℕ, zero, suc, ◌+◌, ◌<◌, ◌≤◌, Bool, true, leb, inl, inr, List, [], ◌∷◌, ◌++◌, length, take, drop, Result, Ok, Err, refl, sym, ap, subst, ◌∙◌, append_assoc, arith}
 use Rattle.std.proofs.lemmas.Bool.{leb-true, leb-false, le-leb, lt-leb}
-use Rattle.std.proofs.lemmas.List.{length-append, take_at, drop_at, drop-drop, take-append-drop, length-take, length-take-le, append-nil, nil_from_length}
+use Rattle.std.proofs.lemmas.List.{length-append, take_at, drop_at, take-append-drop, length-take, length-take-le, append-nil, nil_from_length}
 use Rattle.ctw_leb.specs.declared.fault.LebFault.{LebFault}
 use Rattle.ctw_leb.specs.declared.fault.LebFault.TheVariants.{Truncated}
-use Rattle.ctw_leb.specs.Input.{Input, behind, InFile}
+use Rattle.ctw_leb.specs.Input.{Input, behind}
 use Rattle.ctw_leb.specs.Grammar.{Grammar, Just, Bytes, OneOf, Items, TimesFrom, Times, Within, Passing, Mapped, stays}
 use Rattle.ctw_leb.specs.Grammar as grammar
 use Rattle.ctw_leb.specs.Numbers.{IsU32}

@@ -1,5 +1,5 @@
 -- Names.
-use Rattle.std.proofs.Common.{◌≡◌, ℕ, ◌+◌, ◌-◌, ◌<◌, ◌≤◌, ◌⊎◌, inl, inr, Bool, true, false, List, [], ◌∷◌, ◌++◌, length, take, drop, Result, Ok, Err, refl, sym, ap, subst, ◌∙◌, append_assoc, arith, rules}
+use Rattle.std.proofs.Common.{◌≡◌, ℕ, ◌+◌, ◌-◌, ◌<◌, ◌≤◌, ◌⊎◌, inl, inr, Bool, true, false, List, ◌∷◌, ◌++◌, length, take, drop, Result, Ok, Err, refl, sym, ap, subst, ◌∙◌, append_assoc, arith, rules}
 use Rattle.std.specs.Prelude.{◌↔◌, IsOk, IfOk, IfErr, OnErr, replicate}
 use Rattle.std.specs.Str.{is_utf8, IsUtf8}
 use Rattle.std.proofs.lemmas.Str.{is_utf8-from_IsUtf8, IsUtf8-from_is_utf8}
@@ -16,8 +16,8 @@ use Rattle.ctw_leb.specs.Reading.{Exact}
 use Rattle.ctw_leb.specs.Readers.{bytes_at, u32_at, text_at, name_at}
 use Rattle.ctw_leb.specs.Calls.{ReadsAs, ReadsName, IsBadText}
 use Rattle.ctw_leb.proofs.Exact.{ok_is, err_is, err_ok, ok_err, exact_same, one_begins}
-use Rattle.ctw_leb.proofs.Combinators.{exact_then, exact_tested, exact_bytes, bytes_ok, bytes_there, bytes_missing}
-use Rattle.ctw_leb.proofs.Fronts.{ExactNumber, spelled_read, bad_exactly}
+use Rattle.ctw_leb.proofs.Combinators.{exact_then, exact_tested, exact_bytes, bytes_there, bytes_missing}
+use Rattle.ctw_leb.proofs.Fronts.{spelled_read, bad_exactly}
 use Rattle.ctw_leb.proofs.Widths.{u32_numbers}
 
 -- ---- the rows of the reader

@@ -1,6 +1,6 @@
 -- The minimal spellings.
-use Rattle.std.proofs.Common.{◌≡◌, ◌++◌, ◌+◌, ◌-◌, ◌*◌, ◌<◌, ◌≤◌, ◌^◌, ◌/◌, ◌%◌, ◌⊎◌, ◌∷◌, [], List, ℕ, zero, suc, length, Bool, true, false, Some, None, refl, sym, ap, ◌∙◌, subst, append_assoc, arith, ltb, leb, cond, inl, inr}
-use Rattle.std.proofs.lemmas.Bool.{lt-ltb, le-ltb, ltb-true, ltb-false, leb-true, cases_lt}
+use Rattle.std.proofs.Common.{◌≡◌, ◌++◌, ◌+◌, ◌-◌, ◌*◌, ◌<◌, ◌≤◌, ◌^◌, ◌/◌, ◌%◌, ◌⊎◌, ◌∷◌, [], List, ℕ, zero, suc, length, Bool, true, false, Some, refl, sym, ap, ◌∙◌, subst, append_assoc, arith, inl, inr}
+use Rattle.std.proofs.lemmas.Bool.{lt-ltb, le-ltb, ltb-true, cases_lt}
 use Rattle.std.specs.Prelude.{ℤ, pos, negsuc, FitsSigned}
 use Rattle.std.specs.Int.{w32, w64, cast_unsigned, cast_signed}
 use Rattle.std.proofs.lemmas.Int.{to_z-of_z}
@@ -8,7 +8,6 @@ use lib.Signed.{lt_z}
 use Rattle.ctw_leb.specs.Numbers.{IsU32, IsSigned}
 use Rattle.ctw_leb.specs.Readers.{unsigned_end, signed_end}
 use Rattle.ctw_leb.specs.Spelling.{IsMinimal, turned, shortest, u32_text, s64_text}
-use Rattle.ctw_leb.proofs.Exact.{chosen}
 use Rattle.ctw_leb.proofs.Numbers.{IsNumber, more_bytes}
 use Rattle.ctw_leb.proofs.Standard.{number_from_unsigned, unsigned_from_number, number_from_signed, signed_from_number, bits_of, number_of, FitsHalf, less_half, seven_more, large_half, small_half, unsigned_ends, unsigned_end_is, signed_ends_low, signed_ends_high, signed_end_tests, number_of-bits_of}
 

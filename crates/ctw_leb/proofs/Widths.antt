@@ -1,20 +1,20 @@
 -- The three kinds of numbers.
-use Rattle.std.proofs.Common.{◌≡◌, ℕ, ◌+◌, ◌*◌, ◌^◌, ◌<◌, ◌⊎◌, List, ◌∷◌, ◌++◌, length, Result, Ok, Err, refl, sym, ap, subst, ◌∙◌, arith}
-use Rattle.std.specs.Prelude.{◌↔◌, ℤ, pos, negsuc, FitsSigned}
+use Rattle.std.proofs.Common.{◌≡◌, ℕ, ◌+◌, ◌^◌, ◌<◌, List, ◌∷◌, ◌++◌, length, Result, Ok, Err, refl, sym, ap, subst, ◌∙◌, arith}
+use Rattle.std.specs.Prelude.{ℤ, pos, negsuc, FitsSigned}
 use Rattle.std.specs.Int.{w32, w64, cast_unsigned, cast_signed}
 use Rattle.std.proofs.lemmas.Int.{to_z-of_z, of_z-to_z}
 use Rattle.ctw_leb.specs.declared.fault.LebFault.{LebFault}
-use Rattle.ctw_leb.specs.declared.fault.LebFault.TheVariants.{Truncated, BadLeb}
+use Rattle.ctw_leb.specs.declared.fault.LebFault.TheVariants.{Truncated}
 use Rattle.ctw_leb.specs.Input.{Input, behind}
-use Rattle.ctw_leb.specs.Grammar.{Grammar, EndsInside, Mapped}
-use Rattle.ctw_leb.specs.Reading.{Reader, Exact, chain, seen_as}
+use Rattle.ctw_leb.specs.Grammar.{Grammar, EndsInside}
+use Rattle.ctw_leb.specs.Reading.{Reader, chain, seen_as}
 use Rattle.ctw_leb.specs.Calls.{Reads, ReadsAs}
 use mir.Syntax.{Width}
 use Rattle.ctw_leb.specs.Numbers.{IsSigned, IsU32, IsS32, IsS64}
 use Rattle.ctw_leb.specs.Readers.{unsigned_end, signed_end, u32_at, s32_at, s64_at}
 use Rattle.ctw_leb.proofs.Exact.{ok_is, err_is, ok_err, chain_ok, exact_same}
 use Rattle.ctw_leb.proofs.Numbers.{IsNumber, placed_number, exact_number, number_truncated, number_only, unsigned_zero, signed_zero}
-use Rattle.ctw_leb.proofs.Standard.{number_from_unsigned, unsigned_from_number, number_from_signed, signed_from_number, bits_of, number_of}
+use Rattle.ctw_leb.proofs.Standard.{number_from_unsigned, unsigned_from_number, number_from_signed, signed_from_number}
 use Rattle.ctw_leb.proofs.Fronts.{ExactNumber}
 
 -- the same bytes end inside spellings

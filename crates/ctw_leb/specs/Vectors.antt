@@ -1,5 +1,5 @@
 -- Things behind their count or size.
-use Rattle.std.specs.Prelude.{ℕ, List, true}
+use Rattle.std.specs.Prelude.{ℕ, List}
 use Rattle.std.specs.Str.{is_utf8}
 use Rattle.ctw_leb.specs.Grammar.{Grammar, Times, Within, Passing, Bytes, ◌>>=◌}
 use Rattle.ctw_leb.specs.Numbers.{IsU32}

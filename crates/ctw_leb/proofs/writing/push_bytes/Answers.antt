@@ -1,4 +1,4 @@
-use Rattle.std.proofs.Common.{◌≡◌, ◌+◌, ◌++◌, ◌∷◌, [], List, ℕ, ◌∙◌, refl, sym, ap, append-nil, append_assoc, arith}
+use Rattle.std.proofs.Common.{◌≡◌, ◌+◌, ◌++◌, ◌∷◌, [], List, ℕ, ◌∙◌, refl, sym, ap, append-nil, append_assoc}
 use Rattle.ctw_leb.specs.Spelling.{shortest}
 use Rattle.ctw_leb.proofs.Spelling.{step, last_one, ten_bytes}
 use Rattle.ctw_leb.proofs.writing.push_bytes.Goals as goal

@@ -1,6 +1,4 @@
 use Rattle.std.proofs.Common.{rules}
-use Rattle.ctw_leb.specs.Readers.{name_at}
-use Rattle.ctw_leb.specs.Calls.{ReadsAs}
 use Rattle.ctw_leb.proofs.Names.{reads_name}
 use Rattle.ctw_leb.proofs.cursor.Cursor.name.Goals as goal
 
