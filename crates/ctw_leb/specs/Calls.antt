@@ -17,10 +17,11 @@ abbrev pub ReadsAs : {X Y F : Type 0} → (X → Y) → Result X F → Input →
 ReadsAs view (Ok x) old new read = read ≡ Ok (view x, new)
 ReadsAs view (Err e) old new read = (read ≡ Err e) × (new ≡ old)
 
+-- the same of a value that is seen as it is
 abbrev pub Reads : {X F : Type 0} → Result X F → Input → Input → Result (X × Input) F → Type 0
 Reads = ReadsAs (λ x. x)
 
--- the same, and where it is refused, the cursor is anywhere
+-- the answer, seen by view, and the cursor behind it are what a reader says; where it is refused, the cursor is anywhere
 abbrev pub Finds : {X Y F : Type 0} → (X → Y) → Result X F → Input → Result (Y × Input) F → Type 0
 Finds view (Ok x) new read = read ≡ Ok (view x, new)
 Finds view (Err e) new read = read ≡ Err e

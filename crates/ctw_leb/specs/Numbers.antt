@@ -19,14 +19,14 @@ IsSigned bits [] z = ⊥
 IsSigned bits (b ∷ []) z = IsSignedEnd bits b z
 IsSigned bits (b ∷ c ∷ bs) z = (2 ^ 7 ≤ b) × (b < 2 ^ 8) × (7 < bits) × (m : ℤ) × IsSigned (bits - 7) (c ∷ bs) m × (z ≡ (pos (2 ^ 7) *ℤ m) +ℤ pos (b - 2 ^ 7))
 
--- at most 5 bytes
+-- an unsigned number of 32 bits; at most 5 bytes
 abbrev pub IsU32 : Grammar ℕ
 IsU32 = IsUnsigned 32
 
--- a signed number, by its bits in two's complement; at most 5 bytes
+-- a signed number of 32 bits, by its bits in two's complement; at most 5 bytes
 abbrev pub IsS32 : Grammar ℕ
 IsS32 = Mapped (cast_unsigned w32) (IsSigned 32)
 
--- at most 10 bytes
+-- a signed number of 64 bits, by its bits in two's complement; at most 10 bytes
 abbrev pub IsS64 : Grammar ℕ
 IsS64 = Mapped (cast_unsigned w64) (IsSigned 64)

@@ -26,6 +26,7 @@ signed_end half b =
     if nat_lt b 64 then (if nat_lt b half then Some b else None)
     else if nat_le 128 (b + half) then Some (half - (128 - b) + half) else None
 
+-- what a last byte stands for, in signed numbers or unsigned ones
 abbrev pub ending : Bool → ℕ → ℕ → Option ℕ
 ending true = signed_end
 ending false = unsigned_end
@@ -35,6 +36,7 @@ abbrev pub prefixed : ℕ → Result (ℕ × List ℕ) Cause → Result (ℕ × 
 prefixed b (Ok x) = Ok (b - 128 + 128 * x.0, x.1)
 prefixed b (Err e) = Err e
 
+-- the number of the last byte, and the bytes behind it
 abbrev pub ended : List ℕ → Option ℕ → Result (ℕ × List ℕ) Cause
 ended rest (Some n) = Ok (n, rest)
 ended rest None = Err Illegal
@@ -52,13 +54,15 @@ placed i (Ok x) = Ok (x.0, record { at = i.at + (length i.rest - length x.1); re
 placed i (Err Short) = Err Truncated
 placed i (Err Illegal) = Err (BadLeb i.at)
 
+-- an unsigned number of 32 bits
 abbrev pub u32_at : Reader ℕ LebFault
 u32_at i = placed i (number_at unsigned_end (2 ^ 31) i.rest)
 
--- signed numbers by their bits
+-- a signed number of 32 bits, by its bits
 abbrev pub s32_at : Reader ℕ LebFault
 s32_at i = placed i (number_at signed_end (2 ^ 31) i.rest)
 
+-- a signed number of 64 bits, by its bits
 abbrev pub s64_at : Reader ℕ LebFault
 s64_at i = placed i (number_at signed_end (2 ^ 63) i.rest)
 
@@ -66,5 +70,6 @@ s64_at i = placed i (number_at signed_end (2 ^ 63) i.rest)
 abbrev pub text_at : ℕ → Reader (List ℕ) LebFault
 text_at n = tested is_utf8 BadUtf8 (bytes_at n)
 
+-- a name
 unfoldable pub name_at : Reader (List ℕ) LebFault
 name_at = u32_at >>= text_at

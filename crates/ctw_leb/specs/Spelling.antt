@@ -12,16 +12,16 @@ abbrev pub turned : Bool → ℕ → ℕ
 turned false x = x
 turned true x = 127 - x
 
--- n, or - (n + 1) by its bits turned over, in at most so many bytes, of which the last has something below `limit`
+-- n, or - (n + 1) by the bits of n turned over, in at most so many bytes; the last one has what is below `limit`
 unfoldable pub shortest : ℕ → Bool → ℕ → ℕ → List ℕ
 shortest limit below zero n = []
 shortest limit below (suc k) n = if nat_lt n limit then turned below n ∷ [] else (turned below (n % 128) + 128) ∷ shortest limit below k (n / 128)
 
--- seven bits in each byte
+-- the minimal spelling of an unsigned number: seven bits in each byte
 unfoldable pub u32_text : ℕ → List ℕ
 u32_text = shortest 128 false 10
 
--- seven bits in each byte, but for the sign in the last
+-- the minimal spelling of a signed number: seven bits in each byte, the uppermost of the last one its sign
 unfoldable pub s64_text : ℤ → List ℕ
 s64_text (pos n) = shortest 64 false 10 n
 s64_text (negsuc n) = shortest 64 true 10 n
