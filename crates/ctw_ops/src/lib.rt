@@ -9,4 +9,6 @@ mod types;
 pub use fault::{SecretRule, Space, What};
 pub use numeric::{NumOp, NumSig, num_op, signature, timed};
 pub use owned::{Name, Octets};
-pub use types::{ExternTag, FuncType, GlobalType, Label, Limits, MemType, Trust, ValType, Width, erase_type};
+pub use types::{
+    ExternTag, FuncType, GlobalType, Label, Limits, MemType, Trust, ValType, Width, erase_type,
+};
