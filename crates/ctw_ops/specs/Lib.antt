@@ -5,3 +5,4 @@ pub mod Code
 pub mod Tree
 pub mod Typing
 pub mod Bodies
+pub mod Segments

@@ -4,6 +4,8 @@
 mod fault;
 mod numeric;
 mod owned;
+#[cfg(test)]
+mod tests;
 mod types;
 
 pub use fault::{SecretRule, Space, What};

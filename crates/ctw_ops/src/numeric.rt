@@ -23,6 +23,16 @@ impl Model for NumOp {
     ghost inverse = { λ code. record { code = code } };
 }
 
+impl NumOp {
+    /// The operation's opcode.
+    pub const fn code(self) -> u8
+        ensures value { result ≡ self }
+        ensures numeric { is_numeric result ≡ true }
+    {
+        self.code
+    }
+}
+
 /// What a numeric operation takes and gives.
 #[derive(Clone, Copy, Debug, PartialEq, Eq)]
 pub struct NumSig {
