@@ -1,0 +1,13 @@
+pub mod Ops
+pub mod Rows
+pub mod Targets
+pub mod Places
+pub mod Bodies
+pub mod Balance
+pub mod Ends
+pub mod Positions
+pub mod Marks
+pub mod Halves
+pub mod Built
+pub mod Small
+pub mod FaultKinds

@@ -1,0 +1,45 @@
+-- The lent bytes of a branch table spell its targets.
+use Rattle.std.proofs.Common.{◌≡◌, ℕ, ◌+◌, ◌-◌, ◌<◌, ◌≤◌, List, [], ◌++◌, length, take, Ok, Err, sym, ap, subst, ◌∙◌, arith}
+use Rattle.std.proofs.lemmas.List.{length-append, take_at, append-nil}
+use Rattle.ctw_leb.specs.Input.{Input, behind}
+use Rattle.ctw_leb.specs.Grammar.{Times}
+use Rattle.ctw_leb.specs.Numbers.{IsU32}
+use Rattle.ctw_leb.proofs.Loops.{Left, left_fault, left_none}
+use Rattle.ctw_flat.specs.declared.fault.CodeFault.{CodeFault}
+use Rattle.ctw_flat.specs.Read.{index_at, indexes_at}
+use Rattle.ctw_flat.specs.Instructions.{values, targets_in}
+use Rattle.ctw_flat.proofs.Ops.{exact_indexes}
+
+-- the bytes between two places that a count of indexes was read from
+pub record Taken (count : ℕ) (i o : Input) : Type 0 where
+  pub targets : List ℕ
+  pub read : indexes_at count i ≡ Ok (targets, o)
+  pub shorter : length o.rest ≤ length i.rest
+  pub same : targets_in count (take (length i.rest - length o.rest) i.rest) ≡ targets
+  pub spelled : Times IsU32 count (take (length i.rest - length o.rest) i.rest) targets
+
+pub taken : (count : ℕ) (i o : Input) (targets : List ℕ) → indexes_at count i ≡ Ok (targets, o) → Taken count i o
+taken count i o targets e =
+    let s = (exact_indexes count).sound i targets o e in
+    let sizes : length i.rest ≡ length s.0 + length o.rest = ap length s.2 ∙ length-append s.0 o.rest in
+    let front : take (length i.rest - length o.rest) i.rest ≡ s.0 = ap (take (length i.rest - length o.rest)) s.2 ∙ take_at s.0 o.rest (length i.rest - length o.rest) (omega (arith, sizes)) in
+    let again : indexes_at count (record { at = 0; rest = s.0 ++ [] }) ≡ Ok (targets, behind 0 s.0 []) = (exact_indexes count).complete s.0 [] 0 targets s.1 in
+    let alone : indexes_at count (record { at = 0; rest = s.0 }) ≡ Ok (targets, behind 0 s.0 []) = ap (λ (l : List ℕ). indexes_at count (record { at = 0; rest = l })) (sym (append-nil s.0)) ∙ again in
+    record {
+      targets = targets;
+      read = e;
+      shorter = omega (arith, sizes);
+      same = ap (λ (l : List ℕ). targets_in count l) front ∙ ap values alone;
+      spelled = subst (λ (l : List ℕ). Times IsU32 count l targets) (sym front) s.1;
+    }
+
+-- the loop over the targets ends behind them
+pub all_taken : (count : ℕ) (start : Input) (k : ℕ) (now : Input) → count ≤ k → Left index_at count start (count - k) now → Taken count start now
+unfolding indexes_at
+all_taken count start k now le h =
+    let done = left_none index_at count start k now le h in
+    taken count start now done.0 done.1
+
+pub targets_fault : (count : ℕ) (start : Input) (k : ℕ) (now : Input) (f : CodeFault) → k < count → Left index_at count start (count - k) now → index_at now ≡ Err f → indexes_at count start ≡ Err f
+unfolding indexes_at
+targets_fault count start k now f lt h e = left_fault index_at count start (count - k) now f (omega arith) h e

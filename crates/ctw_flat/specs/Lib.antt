@@ -1,0 +1,11 @@
+pub mod Opcodes
+pub mod Spelled
+pub mod Read
+pub mod Instructions
+pub mod Places
+pub mod Bodies
+pub mod Blocks
+pub mod Positions
+pub mod Marks
+pub mod Rising
+pub mod Calls
