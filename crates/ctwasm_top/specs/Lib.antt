@@ -1,0 +1,15 @@
+pub mod Machine
+pub mod Session
+pub mod Lines
+pub mod Usage
+pub mod OnceWords
+pub mod Words
+pub mod Arguments
+pub mod Valid
+pub mod WordSteps
+pub mod Checked
+pub mod Calls
+pub mod Ending
+pub mod Answer
+pub mod Headline
+pub mod Loading

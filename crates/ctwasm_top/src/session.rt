@@ -1,0 +1,98 @@
+// The two moves of `once`: the call begins, and a turn runs it to its end.
+ghost use Rattle.std.specs.Prelude.{◌≡◌, length, option_map, IfOk, IfSome};
+ghost use Rattle.ctwasm_top.specs.Checked.{callee_of};
+ghost use Rattle.ctwasm_top.specs.Ending.{IsEnding};
+ghost use Rattle.ctwasm_top.specs.Session.{sealed_by};
+ghost use Rattle.ctwasm_top.specs.Calls.{word_of, argument_word, words_of};
+
+use crate::lines::done_line;
+use crate::machine::TypedNumber;
+use crate::validator::Function;
+use crate::words::Argument;
+use ctw_ops::{Label, Width};
+use std::alloc::{AllocError, Global};
+
+/// The next four bytes as a number, the lowest first, and the bytes behind them.
+fn next_word(vault: &[u8]) -> Option<(u32, &[u8])>
+    ensures { option_map (λ next. (next.0, next.1.now)) result ≡ word_of vault.now }
+{
+    let [a, b, c, d, rest @ ..] = vault else {
+        return None;
+    };
+    Some((u32::from_le_bytes([*a, *b, *c, *d]), rest))
+}
+
+/// The word of an argument, and what is left of the vault.
+fn argument_word(argument: Argument, vault: &[u8]) -> Option<(u32, &[u8])>
+    ensures { option_map (λ next. (next.0, next.1.now)) result ≡ argument_word argument vault.now }
+{
+    match argument {
+        Argument::Number(number) => Some((number, vault)),
+        Argument::Vault => next_word(vault),
+    }
+}
+
+/// The words of the arguments, each of which takes four bytes of the vault where it is from there; None where the vault is too short.
+pub fn begin(
+    alloc: Global,
+    arguments: &[Argument],
+    vault: &[u8],
+) -> Result<Option<Vec<u32>>, AllocError>
+    ensures { IfOk result (λ words. option_map (λ words. words.items) words ≡ words_of arguments.now vault.now) }
+{
+    let mut words = Vec::new(alloc);
+    let mut left = vault;
+    for argument in arguments {
+        let Some((word, rest)) = argument_word(*argument, left) else {
+            return Ok(None);
+        };
+        words.push(word)?;
+        left = rest;
+    }
+    Ok(Some(words))
+}
+
+/// What a turn tells and seals.
+#[derive(Drop)]
+pub struct Ending {
+    pub line: Vec<u8>,
+    pub sealed: Vec<u8>,
+}
+
+/// The bytes that a secret result seals.
+fn sealed(alloc: Global, outcome: Option<TypedNumber>) -> Result<Vec<u8>, AllocError>
+    ensures { IfOk result (λ bytes. bytes.items ≡ sealed_by outcome) }
+{
+    let Some(value) = outcome else {
+        return Ok(Vec::new(alloc));
+    };
+    if value.ty.label == Label::Public {
+        return Ok(Vec::new(alloc));
+    }
+    match value.ty.width {
+        Width::W32 => Vec::from_slice(alloc, value.number.to_le_bytes().as_slice()),
+        Width::W64 => Vec::from_slice(alloc, u64::from(value.number).to_le_bytes().as_slice()),
+    }
+}
+
+/// The turn of a call that has begun, or of none.
+pub fn turn(
+    alloc: Global,
+    function: &Function,
+    call: Option<Vec<u32>>,
+) -> Result<Ending, AllocError>
+    requires { IfSome call (λ words. length function.now.params ≡ length words.items) }
+    ensures { IfOk result (λ ending. IsEnding (callee_of function.now) (option_map (λ words. words.items) call) ending.line.items ending.sealed.items) }
+{
+    let Some(words) = call else {
+        return Ok(Ending {
+            line: Vec::from_slice(alloc, b"refused SlotFree\n")?,
+            sealed: Vec::new(alloc),
+        });
+    };
+    let ran = function.run(alloc, words)?;
+    Ok(Ending {
+        line: done_line(alloc, ran.steps, ran.result)?,
+        sealed: sealed(alloc, ran.result)?,
+    })
+}

@@ -1,0 +1,363 @@
+use crate::{Status, ctwasm};
+use ctw_io::{MemShelf, MemSink, SureShelf, SureSink};
+use std::alloc::{AllocError, Global};
+use std::process::Abort;
+use std::test::Fail;
+
+// (s32 i32) -> (s32), exported as "f": the sum of its arguments, the second one made secret first.
+const ADDER: [u8; 41] = [
+    0x00, 0x61, 0x73, 0x6D, 0x01, 0x00, 0x43, 0x54, // header
+    0x01, 0x07, 0x01, 0x60, 0x02, 0x7A, 0x7F, 0x01, 0x7A, // types
+    0x03, 0x02, 0x01, 0x00, // functions
+    0x07, 0x05, 0x01, 0x01, 0x66, 0x00, 0x00, // exports
+    0x0A, 0x0B, 0x01, 0x09, 0x00, 0x20, 0x00, 0x20, 0x01, 0xE1, 0xE0, 0x6A, 0x0B, // code
+];
+
+// The same with i32.add in the place of s32.add, which no typing has.
+const UNTYPED: [u8; 40] = [
+    0x00, 0x61, 0x73, 0x6D, 0x01, 0x00, 0x43, 0x54, // header
+    0x01, 0x07, 0x01, 0x60, 0x02, 0x7A, 0x7F, 0x01, 0x7A, // types
+    0x03, 0x02, 0x01, 0x00, // functions
+    0x07, 0x05, 0x01, 0x01, 0x66, 0x00, 0x00, // exports
+    0x0A, 0x0A, 0x01, 0x08, 0x00, 0x20, 0x00, 0x20, 0x01, 0xE1, 0x6A, 0x0B, // code
+];
+
+// () -> (i32), exported as "f": the number -2.
+const CONSTANT: [u8; 34] = [
+    0x00, 0x61, 0x73, 0x6D, 0x01, 0x00, 0x43, 0x54, // header
+    0x01, 0x05, 0x01, 0x60, 0x00, 0x01, 0x7F, // types
+    0x03, 0x02, 0x01, 0x00, // functions
+    0x07, 0x05, 0x01, 0x01, 0x66, 0x00, 0x00, // exports
+    0x0A, 0x06, 0x01, 0x04, 0x00, 0x41, 0x7E, 0x0B, // code
+];
+
+const USAGE: &[u8] = b"usage: ctwasm check M
+       ctwasm canon M
+       ctwasm text M
+       ctwasm assemble T
+       ctwasm infer M MARKS
+       ctwasm strip M
+       ctwasm link NAME=M..
+       ctwasm run SCRIPT VAULT SEALED NAME=M..
+       ctwasm once M VAULT SEALED EXPORT ARG..
+       ctwasm work SEED SIZE
+";
+
+const FIVE: [u8; 4] = [0x05, 0x00, 0x00, 0x00];
+
+/// What a run left.
+#[derive(Drop)]
+struct Left {
+    status: Status,
+    taken: Vec<u8>,
+    sealed: Option<Vec<u8>>,
+}
+
+fn owned(alloc: Global, words: &[&str]) -> Result<Vec<String>, AllocError> {
+    let mut all = Vec::new(alloc);
+    for word in words {
+        all.push(String::from_str(alloc, word)?)?;
+    }
+    Ok(all)
+}
+
+/// The modules, and a vault.
+fn files(alloc: Global, vault: &[u8]) -> Result<Vec<(String, Vec<u8>)>, AllocError> {
+    Ok(vec![in alloc;
+        (String::from_str(alloc, "m")?, ADDER.to_vec(alloc)?),
+        (String::from_str(alloc, "untyped")?, UNTYPED.to_vec(alloc)?),
+        (
+            String::from_str(alloc, "constant")?,
+            CONSTANT.to_vec(alloc)?
+        ),
+        (
+            String::from_str(alloc, "header")?,
+            b"\x00asm\x01\x00\x00\x00".to_vec(alloc)?
+        ),
+        (String::from_str(alloc, "v")?, vault.to_vec(alloc)?),
+    ]?)
+}
+
+/// A run over a shelf and a sink that don't fail.
+fn run(alloc: Global, words: &[&str], vault: &[u8]) -> Result<Left, AllocError> {
+    let mut shelf = SureShelf::new(alloc, files(alloc, vault)?);
+    let mut out = SureSink::new(alloc, 1000);
+    let status = ctwasm(alloc, &owned(alloc, words)?, &mut shelf, &mut out);
+    let sealed = match shelf.file("s") {
+        Some(bytes) => Some(bytes.to_vec(alloc)?),
+        None => None,
+    };
+    Ok(Left {
+        status,
+        taken: out.taken().to_vec(alloc)?,
+        sealed,
+    })
+}
+
+/// The run of the adder over the vault 5 and the number 7, whose calls of the shelf and the sink fail where told.
+fn faulty(
+    alloc: Global,
+    shelf_fails: Vec<u64>,
+    most: usize,
+    sink_fails: Vec<u64>,
+) -> Result<Left, AllocError> {
+    let mut shelf = MemShelf::new(alloc, files(alloc, &FIVE)?, shelf_fails);
+    let mut out = MemSink::new(alloc, most, sink_fails);
+    let words = owned(alloc, &["once", "m", "v", "s", "f", "*", "7"])?;
+    let status = ctwasm(alloc, &words, &mut shelf, &mut out);
+    let sealed = match shelf.file("s") {
+        Some(bytes) => Some(bytes.to_vec(alloc)?),
+        None => None,
+    };
+    Ok(Left {
+        status,
+        taken: out.taken().to_vec(alloc)?,
+        sealed,
+    })
+}
+
+/// The status, the text, and the sealed bytes or that none were saved.
+fn has_left(rt: &impl Abort, left: &Left, status: Status, taken: &[u8], sealed: Option<&[u8]>) {
+    assert_eq!(rt; left.status, status);
+    assert_eq!(rt; left.taken.as_slice(), taken);
+    assert!(rt;
+        match (&left.sealed, sealed) {
+            (Some(bytes), Some(want)) => bytes.as_slice() == want,
+            (None, None) => true,
+            _ => false,
+        }
+    );
+}
+
+#[test]
+fn a_secret_sum_is_sealed_and_not_printed(rt: HostRuntime) -> Result<(), Fail> {
+    let words = ["once", "m", "v", "s", "f", "*", "7"];
+    let table: [(&[u8], &[u8]); 4] = [
+        (&FIVE, b"\x0C\x00\x00\x00"),
+        (b"\xFF\xFF\xFF\xFF", b"\x06\x00\x00\x00"),
+        (b"\x05\x00\x00\x00\x01", b"\x0C\x00\x00\x00"),
+        (b"\x00\x01\x02\x03", b"\x07\x01\x02\x03"),
+    ];
+    for (vault, sealed) in table {
+        let end = run(rt.alloc(), &words, vault)?;
+        has_left(
+            &rt,
+            &end,
+            Status::Done,
+            b"began\ndone 4 secret\n",
+            Some(sealed),
+        );
+    }
+    Ok(())
+}
+
+#[test]
+fn a_public_result_is_printed(rt: HostRuntime) -> Result<(), Fail> {
+    let end = run(rt.alloc(), &["once", "constant", "v", "s", "f"], b"")?;
+    has_left(
+        &rt,
+        &end,
+        Status::Done,
+        b"began\ndone 2 i32 4294967294\n",
+        Some(b""),
+    );
+    Ok(())
+}
+
+#[test]
+fn a_vault_that_is_short_begins_nothing(rt: HostRuntime) -> Result<(), Fail> {
+    let words = ["once", "m", "v", "s", "f", "*", "7"];
+    for vault in [b"".as_slice(), b"\x05\x00\x00"] {
+        let end = run(rt.alloc(), &words, vault)?;
+        has_left(
+            &rt,
+            &end,
+            Status::Done,
+            b"refused VaultShort\nrefused SlotFree\n",
+            Some(b""),
+        );
+    }
+    Ok(())
+}
+
+#[test]
+fn each_refusal_has_its_line(rt: HostRuntime) -> Result<(), Fail> {
+    let table: [(&[&str], &[u8]); 20] = [
+        (&["once", "v", "v", "s", "f", "*"], b"refused SameFile v\n"),
+        (
+            &["once", "m", "v", "v", "f", "*", "7"],
+            b"refused SameFile v\n",
+        ),
+        (
+            &["once", "m", "v", "m", "f", "*", "7"],
+            b"refused SameFile m\n",
+        ),
+        (&["once", "v", "v", "v", "f"], b"refused SameFile v\n"),
+        (
+            &["once", "gone", "gone", "s", "f"],
+            b"refused SameFile gone\n",
+        ),
+        (
+            &["once", "gone", "v", "gone", "f", "x"],
+            b"refused SameFile gone\n",
+        ),
+        (
+            &["once", "m", "v", "s", "f", "*", "x"],
+            b"refused NotBuilt x\n",
+        ),
+        (
+            &["once", "gone", "v", "s", "f", "-1", "x"],
+            b"refused NotBuilt -1\n",
+        ),
+        (
+            &["once", "m", "v", "s", "f", "*", "4294967296"],
+            b"refused NotBuilt 4294967296\n",
+        ),
+        (
+            &["once", "m", "v", "s", "f", "*", "00000000007"],
+            b"refused NotBuilt 00000000007\n",
+        ),
+        (
+            &["once", "m", "v", "s", "f", "**", "7"],
+            b"refused NotBuilt **\n",
+        ),
+        (
+            &["once", "gone", "gone2", "s", "f"],
+            b"refused Missing gone\n",
+        ),
+        (
+            &["once", "header", "gone", "s", "f"],
+            b"refused Missing gone\n",
+        ),
+        (
+            &["once", "header", "v", "s", "f"],
+            b"refused NotBuilt header\n",
+        ),
+        (
+            &["once", "untyped", "v", "s", "f", "*", "7"],
+            b"refused NotBuilt untyped\n",
+        ),
+        (
+            &["once", "m", "v", "s", "g", "*", "7"],
+            b"refused NotBuilt m\n",
+        ),
+        (&["once", "m", "v", "s", "f"], b"refused NotBuilt m\n"),
+        (&["once", "m", "v", "s", "f", "*"], b"refused NotBuilt m\n"),
+        (
+            &["once", "m", "v", "s", "f", "*", "7", "7"],
+            b"refused NotBuilt m\n",
+        ),
+        (
+            &["once", "m", "v", "s", "f", "*", "*"],
+            b"refused NotBuilt m\n",
+        ),
+    ];
+    for (words, line) in table {
+        let end = run(rt.alloc(), words, &FIVE)?;
+        has_left(&rt, &end, Status::Refused, line, None);
+    }
+    Ok(())
+}
+
+#[test]
+fn a_vault_of_over_16_mebibytes_is_too_large(rt: HostRuntime) -> Result<(), Fail> {
+    let vault = vec![in rt.alloc(); 0u8; 16_777_217]?;
+    let words = ["once", "m", "v", "s", "f", "*", "7"];
+    let end = run(rt.alloc(), &words, &vault)?;
+    has_left(&rt, &end, Status::Refused, b"refused TooLarge v\n", None);
+    let end = run(rt.alloc(), &words, vault.get(1..).unwrap_or(&[]))?;
+    has_left(
+        &rt,
+        &end,
+        Status::Done,
+        b"began\ndone 4 secret\n",
+        Some(b"\x07\x00\x00\x00"),
+    );
+    Ok(())
+}
+
+#[test]
+fn words_of_no_command_are_a_wrong_use(rt: HostRuntime) -> Result<(), Fail> {
+    let table: [&[&str]; 7] = [
+        &[],
+        &[""],
+        &["once"],
+        &["once", "m", "v", "s"],
+        &["Once", "m", "v", "s", "f", "*", "7"],
+        &["once", "m", "v", "s", "f", "*", ""],
+        &["run", "m", "v", "s", "f", "*", "7"],
+    ];
+    for words in table {
+        let end = run(rt.alloc(), words, &FIVE)?;
+        has_left(&rt, &end, Status::Usage, USAGE, None);
+    }
+    Ok(())
+}
+
+#[test]
+fn a_load_that_fails_leaves_nothing(rt: HostRuntime) -> Result<(), Fail> {
+    let alloc = rt.alloc();
+    for call in [1, 2] {
+        let end = faulty(alloc, vec![in alloc; call]?, 1000, Vec::new(alloc))?;
+        has_left(&rt, &end, Status::ReadFault, b"", None);
+    }
+    Ok(())
+}
+
+#[test]
+fn a_save_that_fails_comes_after_the_whole_text(rt: HostRuntime) -> Result<(), Fail> {
+    let alloc = rt.alloc();
+    let end = faulty(alloc, vec![in alloc; 3]?, 1000, Vec::new(alloc))?;
+    has_left(
+        &rt,
+        &end,
+        Status::SaveFault,
+        b"began\ndone 4 secret\n",
+        None,
+    );
+    Ok(())
+}
+
+// By 3 bytes a call the text takes 7 calls, 2 for the first move and 5 for the second.
+#[test]
+fn a_write_that_fails_leaves_what_was_taken(rt: HostRuntime) -> Result<(), Fail> {
+    let alloc = rt.alloc();
+    let table: [(usize, u64, &[u8]); 9] = [
+        (3, 1, b""),
+        (3, 2, b"beg"),
+        (3, 3, b"began\n"),
+        (3, 4, b"began\ndon"),
+        (3, 5, b"began\ndone 4"),
+        (3, 6, b"began\ndone 4 se"),
+        (3, 7, b"began\ndone 4 secre"),
+        (1000, 1, b""),
+        (1000, 2, b"began\n"),
+    ];
+    for (most, call, taken) in table {
+        let end = faulty(alloc, Vec::new(alloc), most, vec![in alloc; call]?)?;
+        has_left(&rt, &end, Status::WriteFault, taken, None);
+    }
+    for (most, call) in [(3, 8), (1000, 3)] {
+        let end = faulty(alloc, Vec::new(alloc), most, vec![in alloc; call]?)?;
+        has_left(
+            &rt,
+            &end,
+            Status::Done,
+            b"began\ndone 4 secret\n",
+            Some(b"\x0C\x00\x00\x00"),
+        );
+    }
+    Ok(())
+}
+
+#[test]
+fn all_vaults_of_a_length_give_the_same_text(rt: HostRuntime) -> Result<(), Fail> {
+    let alloc = rt.alloc();
+    let words = ["once", "m", "v", "s", "f", "*", "7"];
+    for byte in 0..=u8::MAX {
+        let end = run(alloc, &words, &[byte, byte ^ 0x5A, 0xFF, byte])?;
+        assert!(rt; end.status == Status::Done);
+        assert_eq!(rt; end.taken.as_slice(), b"began\ndone 4 secret\n".as_slice());
+    }
+    Ok(())
+}
