@@ -1,0 +1,11 @@
+pub mod Facts
+pub mod Runs
+pub mod Comments
+pub mod Quotes
+pub mod Spelling
+pub mod Heads
+pub mod Reading
+pub mod Slices
+pub mod Told
+pub mod Steps
+pub mod Ends

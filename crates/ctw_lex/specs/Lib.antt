@@ -1,0 +1,12 @@
+pub mod Chars
+pub mod Strings
+pub mod Escapes
+pub mod Items
+pub mod Extent
+pub mod Lexeme
+pub mod Told
+pub mod Spans
+pub mod Tokens
+pub mod Grammar
+pub mod Faults
+pub mod Answers
