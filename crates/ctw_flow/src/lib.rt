@@ -1,0 +1,11 @@
+// Graphs whose links have a rule: which nodes are reached from a start, and the least shortest path to a goal.
+#![tactic(auto)]
+
+mod graph;
+mod path;
+mod search;
+#[cfg(test)]
+mod tests;
+
+pub use graph::{Edge, Graph};
+pub use path::{Marked, Path};

@@ -1,0 +1,75 @@
+// What the searches answer.
+ghost use Rattle.std.specs.Prelude.{◌≡◌, ◌↔◌, ℕ, ◌<◌, ◌≤◌, ◌-◌, ◌+◌, length, true, Some, slice_get, slice_index};
+
+use std::marker::Model;
+
+/// A set of nodes.
+///
+/// Contracts see it as a list that says of each node whether it is in the set.
+#[derive(Drop)]
+pub struct Marked {
+    pub(crate) bits: Vec<bool>,
+}
+
+impl Model for Marked {
+    ghost use Rattle.std.specs.Prelude.{List, Bool};
+
+    ghost Value = { List Bool };
+
+    ghost view = { λ m. m.bits.items };
+}
+
+impl Marked {
+    /// Whether a node below the count of nodes is in the set.
+    pub fn has(&self, node: u32) -> bool
+        requires { node < length self.now }
+        ensures { (result ≡ true) ↔ (slice_get self.now node ≡ Some true) }
+    {
+        self.bits[node as usize]
+    }
+}
+
+/// A path, by its nodes in order, with the rules of its links.
+#[derive(Drop)]
+pub struct Path {
+    pub(crate) nodes: Vec<u32>,
+    pub(crate) rules: Vec<u8>,
+}
+
+impl Model for Path {
+    ghost use Rattle.std.specs.Prelude.{◌≡◌, ◌<◌, ◌^◌, ◌+◌, length};
+    ghost use Rattle.ctw_flow.specs.Path.{Steps};
+
+    ghost Value = { Steps };
+
+    ghost view = { λ p. record { nodes = p.nodes.items; rules = p.rules.items } };
+
+    ghost invariant = { λ p. (length p.nodes.items ≡ length p.rules.items + 1) × (length p.nodes.items < 2 ^ 32) };
+}
+
+impl Path {
+    /// The number of nodes, at least 1.
+    pub fn count(&self) -> u32
+        ensures nodes { result ≡ length self.now.nodes }
+        ensures links { result ≡ length self.now.rules + 1 }
+    {
+        self.nodes.len() as u32
+    }
+
+    /// Node i of the path, counted from 0, for i below the count.
+    pub fn node(&self, i: u32) -> u32
+        requires { i < length self.now.nodes }
+        ensures { result ≡ slice_index self.now.nodes i }
+    {
+        self.nodes[i as usize]
+    }
+
+    /// The rule of the link that leads to node i of the path, for i from 1 and below the count.
+    pub fn rule(&self, i: u32) -> u8
+        requires first { 1 ≤ i }
+        requires last { i < length self.now.nodes }
+        ensures { result ≡ slice_index self.now.rules (i - 1) }
+    {
+        self.rules[i as usize - 1]
+    }
+}
