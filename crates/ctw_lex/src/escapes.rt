@@ -99,6 +99,7 @@ pub fn escape_at(rest: &[u8]) -> Option<Escape>
     scalar_escape(b, more)
 }
 
+/// How many bytes an escape has behind its backslash.
 pub fn length_of(e: Escape) -> usize
     ensures { result ≡ escape_len e }
 {
