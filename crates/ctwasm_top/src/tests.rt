@@ -1,5 +1,5 @@
 use crate::{Status, ctwasm};
-use ctw_io::{MemShelf, MemSink, SureShelf, SureSink};
+use ctw_io::{MemShelf, MemSink, Shelf, SureShelf, SureSink};
 use std::alloc::{AllocError, Global};
 use std::process::Abort;
 use std::test::Fail;
@@ -43,6 +43,8 @@ const USAGE: &[u8] = b"usage: ctwasm check M
        ctwasm work SEED SIZE
 ";
 
+const ADDITION: &str = "once m v s f * 7";
+
 const FIVE: [u8; 4] = [0x05, 0x00, 0x00, 0x00];
 
 /// What a run left.
@@ -53,36 +55,35 @@ struct Left {
     sealed: Option<Vec<u8>>,
 }
 
-fn owned(alloc: Global, words: &[&str]) -> Result<Vec<String>, AllocError> {
-    let mut all = Vec::new(alloc);
-    for word in words {
-        all.push(String::from_str(alloc, word)?)?;
+/// The words of a line, between single blanks.
+fn words_of(alloc: Global, line: &str) -> Result<Vec<String>, AllocError> {
+    let mut words = Vec::new(alloc);
+    for word in line.split(' ') {
+        words.push(String::from_str(alloc, word)?)?;
     }
-    Ok(all)
+    Ok(words)
 }
 
-/// The modules, and a vault.
-fn files(alloc: Global, vault: &[u8]) -> Result<Vec<(String, Vec<u8>)>, AllocError> {
-    Ok(vec![in alloc;
-        (String::from_str(alloc, "m")?, ADDER.to_vec(alloc)?),
-        (String::from_str(alloc, "untyped")?, UNTYPED.to_vec(alloc)?),
-        (
-            String::from_str(alloc, "constant")?,
-            CONSTANT.to_vec(alloc)?
-        ),
-        (
-            String::from_str(alloc, "header")?,
-            b"\x00asm\x01\x00\x00\x00".to_vec(alloc)?
-        ),
-        (String::from_str(alloc, "v")?, vault.to_vec(alloc)?),
-    ]?)
+/// Saves the adder and a vault, in two calls.
+fn fill(rt: &impl Abort, shelf: &mut impl Shelf, vault: &[u8]) {
+    assert_eq!(rt; shelf.save("m", &ADDER), Ok(()));
+    assert_eq!(rt; shelf.save("v", vault), Ok(()));
 }
 
 /// A run over a shelf and a sink that don't fail.
-fn run(alloc: Global, words: &[&str], vault: &[u8]) -> Result<Left, AllocError> {
-    let mut shelf = SureShelf::new(alloc, files(alloc, vault)?);
+fn run_words(
+    rt: &impl Abort,
+    alloc: Global,
+    words: &[String],
+    vault: &[u8],
+) -> Result<Left, AllocError> {
+    let mut shelf = SureShelf::new(alloc, Vec::new(alloc));
+    fill(rt, &mut shelf, vault);
+    assert_eq!(rt; shelf.save("untyped", &UNTYPED), Ok(()));
+    assert_eq!(rt; shelf.save("constant", &CONSTANT), Ok(()));
+    assert_eq!(rt; shelf.save("header", b"\x00asm\x01\x00\x00\x00"), Ok(()));
     let mut out = SureSink::new(alloc, 1000);
-    let status = ctwasm(alloc, &owned(alloc, words)?, &mut shelf, &mut out);
+    let status = ctwasm(alloc, words, &mut shelf, &mut out);
     let sealed = match shelf.file("s") {
         Some(bytes) => Some(bytes.to_vec(alloc)?),
         None => None,
@@ -94,17 +95,25 @@ fn run(alloc: Global, words: &[&str], vault: &[u8]) -> Result<Left, AllocError> 
     })
 }
 
-/// The run of the adder over the vault 5 and the number 7, whose calls of the shelf and the sink fail where told.
+/// The same of the words of a line.
+fn run(rt: &impl Abort, alloc: Global, line: &str, vault: &[u8]) -> Result<Left, AllocError> {
+    run_words(rt, alloc, &words_of(alloc, line)?, vault)
+}
+
+/// The run of the adder over the vault 5 and the number 7, whose calls of the shelf and the sink fail where told. The
+/// shelf's first two calls fill it.
 fn faulty(
+    rt: &impl Abort,
     alloc: Global,
     shelf_fails: Vec<u64>,
     most: usize,
     sink_fails: Vec<u64>,
 ) -> Result<Left, AllocError> {
-    let mut shelf = MemShelf::new(alloc, files(alloc, &FIVE)?, shelf_fails);
+    assert!(rt; most > 0);
+    let mut shelf = MemShelf::new(alloc, Vec::new(alloc), shelf_fails);
+    fill(rt, &mut shelf, &FIVE);
     let mut out = MemSink::new(alloc, most, sink_fails);
-    let words = owned(alloc, &["once", "m", "v", "s", "f", "*", "7"])?;
-    let status = ctwasm(alloc, &words, &mut shelf, &mut out);
+    let status = ctwasm(alloc, &words_of(alloc, ADDITION)?, &mut shelf, &mut out);
     let sealed = match shelf.file("s") {
         Some(bytes) => Some(bytes.to_vec(alloc)?),
         None => None,
@@ -131,7 +140,6 @@ fn has_left(rt: &impl Abort, left: &Left, status: Status, taken: &[u8], sealed: 
 
 #[test]
 fn a_secret_sum_is_sealed_and_not_printed(rt: HostRuntime) -> Result<(), Fail> {
-    let words = ["once", "m", "v", "s", "f", "*", "7"];
     let table: [(&[u8], &[u8]); 4] = [
         (&FIVE, b"\x0C\x00\x00\x00"),
         (b"\xFF\xFF\xFF\xFF", b"\x06\x00\x00\x00"),
@@ -139,7 +147,7 @@ fn a_secret_sum_is_sealed_and_not_printed(rt: HostRuntime) -> Result<(), Fail> {
         (b"\x00\x01\x02\x03", b"\x07\x01\x02\x03"),
     ];
     for (vault, sealed) in table {
-        let end = run(rt.alloc(), &words, vault)?;
+        let end = run(&rt, rt.alloc(), ADDITION, vault)?;
         has_left(
             &rt,
             &end,
@@ -153,7 +161,7 @@ fn a_secret_sum_is_sealed_and_not_printed(rt: HostRuntime) -> Result<(), Fail> {
 
 #[test]
 fn a_public_result_is_printed(rt: HostRuntime) -> Result<(), Fail> {
-    let end = run(rt.alloc(), &["once", "constant", "v", "s", "f"], b"")?;
+    let end = run(&rt, rt.alloc(), "once constant v s f", b"")?;
     has_left(
         &rt,
         &end,
@@ -166,9 +174,8 @@ fn a_public_result_is_printed(rt: HostRuntime) -> Result<(), Fail> {
 
 #[test]
 fn a_vault_that_is_short_begins_nothing(rt: HostRuntime) -> Result<(), Fail> {
-    let words = ["once", "m", "v", "s", "f", "*", "7"];
     for vault in [b"".as_slice(), b"\x05\x00\x00"] {
-        let end = run(rt.alloc(), &words, vault)?;
+        let end = run(&rt, rt.alloc(), ADDITION, vault)?;
         has_left(
             &rt,
             &end,
@@ -182,79 +189,34 @@ fn a_vault_that_is_short_begins_nothing(rt: HostRuntime) -> Result<(), Fail> {
 
 #[test]
 fn each_refusal_has_its_line(rt: HostRuntime) -> Result<(), Fail> {
-    let table: [(&[&str], &[u8]); 20] = [
-        (&["once", "v", "v", "s", "f", "*"], b"refused SameFile v\n"),
+    let table = [
+        ("once v v s f *", "refused SameFile v\n"),
+        ("once m v v f * 7", "refused SameFile v\n"),
+        ("once m v m f * 7", "refused SameFile m\n"),
+        ("once v v v f", "refused SameFile v\n"),
+        ("once gone gone s f", "refused SameFile gone\n"),
+        ("once gone v gone f x", "refused SameFile gone\n"),
+        ("once m v s f * x", "refused NotBuilt x\n"),
+        ("once gone v s f -1 x", "refused NotBuilt -1\n"),
+        ("once m v s f * 4294967296", "refused NotBuilt 4294967296\n"),
         (
-            &["once", "m", "v", "v", "f", "*", "7"],
-            b"refused SameFile v\n",
+            "once m v s f * 00000000007",
+            "refused NotBuilt 00000000007\n",
         ),
-        (
-            &["once", "m", "v", "m", "f", "*", "7"],
-            b"refused SameFile m\n",
-        ),
-        (&["once", "v", "v", "v", "f"], b"refused SameFile v\n"),
-        (
-            &["once", "gone", "gone", "s", "f"],
-            b"refused SameFile gone\n",
-        ),
-        (
-            &["once", "gone", "v", "gone", "f", "x"],
-            b"refused SameFile gone\n",
-        ),
-        (
-            &["once", "m", "v", "s", "f", "*", "x"],
-            b"refused NotBuilt x\n",
-        ),
-        (
-            &["once", "gone", "v", "s", "f", "-1", "x"],
-            b"refused NotBuilt -1\n",
-        ),
-        (
-            &["once", "m", "v", "s", "f", "*", "4294967296"],
-            b"refused NotBuilt 4294967296\n",
-        ),
-        (
-            &["once", "m", "v", "s", "f", "*", "00000000007"],
-            b"refused NotBuilt 00000000007\n",
-        ),
-        (
-            &["once", "m", "v", "s", "f", "**", "7"],
-            b"refused NotBuilt **\n",
-        ),
-        (
-            &["once", "gone", "gone2", "s", "f"],
-            b"refused Missing gone\n",
-        ),
-        (
-            &["once", "header", "gone", "s", "f"],
-            b"refused Missing gone\n",
-        ),
-        (
-            &["once", "header", "v", "s", "f"],
-            b"refused NotBuilt header\n",
-        ),
-        (
-            &["once", "untyped", "v", "s", "f", "*", "7"],
-            b"refused NotBuilt untyped\n",
-        ),
-        (
-            &["once", "m", "v", "s", "g", "*", "7"],
-            b"refused NotBuilt m\n",
-        ),
-        (&["once", "m", "v", "s", "f"], b"refused NotBuilt m\n"),
-        (&["once", "m", "v", "s", "f", "*"], b"refused NotBuilt m\n"),
-        (
-            &["once", "m", "v", "s", "f", "*", "7", "7"],
-            b"refused NotBuilt m\n",
-        ),
-        (
-            &["once", "m", "v", "s", "f", "*", "*"],
-            b"refused NotBuilt m\n",
-        ),
+        ("once m v s f ** 7", "refused NotBuilt **\n"),
+        ("once gone gone2 s f", "refused Missing gone\n"),
+        ("once header gone s f", "refused Missing gone\n"),
+        ("once header v s f", "refused NotBuilt header\n"),
+        ("once untyped v s f * 7", "refused NotBuilt untyped\n"),
+        ("once m v s g * 7", "refused NotBuilt m\n"),
+        ("once m v s f", "refused NotBuilt m\n"),
+        ("once m v s f *", "refused NotBuilt m\n"),
+        ("once m v s f * 7 7", "refused NotBuilt m\n"),
+        ("once m v s f * *", "refused NotBuilt m\n"),
     ];
     for (words, line) in table {
-        let end = run(rt.alloc(), words, &FIVE)?;
-        has_left(&rt, &end, Status::Refused, line, None);
+        let end = run(&rt, rt.alloc(), words, &FIVE)?;
+        has_left(&rt, &end, Status::Refused, line.as_bytes(), None);
     }
     Ok(())
 }
@@ -262,10 +224,9 @@ fn each_refusal_has_its_line(rt: HostRuntime) -> Result<(), Fail> {
 #[test]
 fn a_vault_of_over_16_mebibytes_is_too_large(rt: HostRuntime) -> Result<(), Fail> {
     let vault = vec![in rt.alloc(); 0u8; 16_777_217]?;
-    let words = ["once", "m", "v", "s", "f", "*", "7"];
-    let end = run(rt.alloc(), &words, &vault)?;
+    let end = run(&rt, rt.alloc(), ADDITION, &vault)?;
     has_left(&rt, &end, Status::Refused, b"refused TooLarge v\n", None);
-    let end = run(rt.alloc(), &words, vault.get(1..).unwrap_or(&[]))?;
+    let end = run(&rt, rt.alloc(), ADDITION, vault.get(1..).unwrap_or(&[]))?;
     has_left(
         &rt,
         &end,
@@ -278,17 +239,19 @@ fn a_vault_of_over_16_mebibytes_is_too_large(rt: HostRuntime) -> Result<(), Fail
 
 #[test]
 fn words_of_no_command_are_a_wrong_use(rt: HostRuntime) -> Result<(), Fail> {
-    let table: [&[&str]; 7] = [
-        &[],
-        &[""],
-        &["once"],
-        &["once", "m", "v", "s"],
-        &["Once", "m", "v", "s", "f", "*", "7"],
-        &["once", "m", "v", "s", "f", "*", ""],
-        &["run", "m", "v", "s", "f", "*", "7"],
+    let none = Vec::new(rt.alloc());
+    let end = run_words(&rt, rt.alloc(), &none, &FIVE)?;
+    has_left(&rt, &end, Status::Usage, USAGE, None);
+    let table = [
+        "",
+        "once",
+        "once m v s",
+        "Once m v s f * 7",
+        "once m v s f * ",
+        "run m v s f * 7",
     ];
-    for words in table {
-        let end = run(rt.alloc(), words, &FIVE)?;
+    for line in table {
+        let end = run(&rt, rt.alloc(), line, &FIVE)?;
         has_left(&rt, &end, Status::Usage, USAGE, None);
     }
     Ok(())
@@ -297,8 +260,8 @@ fn words_of_no_command_are_a_wrong_use(rt: HostRuntime) -> Result<(), Fail> {
 #[test]
 fn a_load_that_fails_leaves_nothing(rt: HostRuntime) -> Result<(), Fail> {
     let alloc = rt.alloc();
-    for call in [1, 2] {
-        let end = faulty(alloc, vec![in alloc; call]?, 1000, Vec::new(alloc))?;
+    for call in [3, 4] {
+        let end = faulty(&rt, alloc, vec![in alloc; call]?, 1000, Vec::new(alloc))?;
         has_left(&rt, &end, Status::ReadFault, b"", None);
     }
     Ok(())
@@ -307,7 +270,7 @@ fn a_load_that_fails_leaves_nothing(rt: HostRuntime) -> Result<(), Fail> {
 #[test]
 fn a_save_that_fails_comes_after_the_whole_text(rt: HostRuntime) -> Result<(), Fail> {
     let alloc = rt.alloc();
-    let end = faulty(alloc, vec![in alloc; 3]?, 1000, Vec::new(alloc))?;
+    let end = faulty(&rt, alloc, vec![in alloc; 5]?, 1000, Vec::new(alloc))?;
     has_left(
         &rt,
         &end,
@@ -334,11 +297,11 @@ fn a_write_that_fails_leaves_what_was_taken(rt: HostRuntime) -> Result<(), Fail>
         (1000, 2, b"began\n"),
     ];
     for (most, call, taken) in table {
-        let end = faulty(alloc, Vec::new(alloc), most, vec![in alloc; call]?)?;
+        let end = faulty(&rt, alloc, Vec::new(alloc), most, vec![in alloc; call]?)?;
         has_left(&rt, &end, Status::WriteFault, taken, None);
     }
     for (most, call) in [(3, 8), (1000, 3)] {
-        let end = faulty(alloc, Vec::new(alloc), most, vec![in alloc; call]?)?;
+        let end = faulty(&rt, alloc, Vec::new(alloc), most, vec![in alloc; call]?)?;
         has_left(
             &rt,
             &end,
@@ -353,9 +316,8 @@ fn a_write_that_fails_leaves_what_was_taken(rt: HostRuntime) -> Result<(), Fail>
 #[test]
 fn all_vaults_of_a_length_give_the_same_text(rt: HostRuntime) -> Result<(), Fail> {
     let alloc = rt.alloc();
-    let words = ["once", "m", "v", "s", "f", "*", "7"];
     for byte in 0..=u8::MAX {
-        let end = run(alloc, &words, &[byte, byte ^ 0x5A, 0xFF, byte])?;
+        let end = run(&rt, alloc, ADDITION, &[byte, byte ^ 0x5A, 0xFF, byte])?;
         assert!(rt; end.status == Status::Done);
         assert_eq!(rt; end.taken.as_slice(), b"began\ndone 4 secret\n".as_slice());
     }
