@@ -223,13 +223,13 @@ fn fits(params: &[ValType], arguments: &[Argument]) -> bool
 }
 
 /// The function of a module, where its instructions have its type; None exactly where they haven't.
-pub fn check(alloc: Global, module: &Module) -> Result<Option<Function>, AllocError>
-    ensures decides { IfOk result (λ function. function ≡ (if is_typed module.now then Some (straight_function module.now) else None)) }
-    ensures typed { (bytes : List ℕ) → IsFirstForm bytes module.now → IfOk result (λ function. IsSome function ↔ IsTypedForm module.now) }
+pub fn check(alloc: Global, view: &Module) -> Result<Option<Function>, AllocError>
+    ensures decides { IfOk result (λ function. function ≡ (if is_typed view.now then Some (straight_function view.now) else None)) }
+    ensures typed { (bytes : List ℕ) → IsFirstForm bytes view.now → IfOk result (λ function. IsSome function ↔ IsTypedForm view.now) }
 {
-    let func_type = module.func_type(0);
+    let func_type = view.func_type(0);
     let params = value_types(alloc, func_type.params)?;
-    let code = module.straight_code(alloc)?;
+    let code = view.straight_code(alloc)?;
     if has_type(alloc, &params, func_type.result, &code)? {
         return Ok(Some(Function {
             params,

@@ -19,7 +19,7 @@ pub returns-then-branch-clause-decides : goal.returns-then-branch-clause-decides
 returns-then-branch-clause-decides c =
     let r = c.func_type.inside.result in
     let f = c.func_type.view_is ∙ c.func_type-func_type.ensures in
-    check_yes c.args.module.now c.in_ok-params.params.items r (map leaf_of c.in_ok-code.code.items)
+    check_yes c.args.view.now c.in_ok-params.params.items r (map leaf_of c.in_ok-code.code.items)
     (c.in_ok-params.ensures ∙ ap (λ (f : FunctionType Label). f.params) f) (ap (λ (f : FunctionType Label). f.result) f) c.in_ok-code.ensures.instructions
     (told r c.in_ok-params.params.items c.deref.result.now c.in_ok-code.code.items c.deref-2.result.now c.in_ok-has_type.field-0 c.deref.ensures.value c.deref-2.ensures.value c.in_ok-has_type.ensures ∙ c.if-branch.true)
 
@@ -27,7 +27,7 @@ pub returns-then-branch-clause-typed : goal.returns-then-branch-clause-typed
 returns-then-branch-clause-typed c = λ bytes first.
     let r = c.func_type.inside.result in
     let f = c.func_type.view_is ∙ c.func_type-func_type.ensures in (
-      (λ _. yes_is_typed c.args.module.now c.in_ok-params.params.items r (map leaf_of c.in_ok-code.code.items)
+      (λ _. yes_is_typed c.args.view.now c.in_ok-params.params.items r (map leaf_of c.in_ok-code.code.items)
           (c.in_ok-params.ensures ∙ ap (λ (f : FunctionType Label). f.params) f) (ap (λ (f : FunctionType Label). f.result) f) c.in_ok-code.ensures.instructions
           (told r c.in_ok-params.params.items c.deref.result.now c.in_ok-code.code.items c.deref-2.result.now c.in_ok-has_type.field-0 c.deref.ensures.value c.deref-2.ensures.value c.in_ok-has_type.ensures ∙ c.if-branch.true)
           bytes first),
@@ -38,7 +38,7 @@ pub returns-clause-decides : goal.returns-clause-decides
 returns-clause-decides c =
     let r = c.func_type.inside.result in
     let f = c.func_type.view_is ∙ c.func_type-func_type.ensures in
-    check_no c.args.module.now c.in_ok-params.params.items r (map leaf_of c.in_ok-code.code.items)
+    check_no c.args.view.now c.in_ok-params.params.items r (map leaf_of c.in_ok-code.code.items)
     (c.in_ok-params.ensures ∙ ap (λ (f : FunctionType Label). f.params) f) (ap (λ (f : FunctionType Label). f.result) f) c.in_ok-code.ensures.instructions
     (told r c.in_ok-params.params.items c.deref.result.now c.in_ok-code.code.items c.deref-2.result.now c.in_ok-has_type.field-0 c.deref.ensures.value c.deref-2.ensures.value c.in_ok-has_type.ensures ∙ c.if-branch.false)
 
@@ -47,7 +47,7 @@ returns-clause-typed c = λ bytes first.
     let r = c.func_type.inside.result in
     let f = c.func_type.view_is ∙ c.func_type-func_type.ensures in (
       (λ e. cc),
-      λ t. absurd (no_is_typed c.args.module.now c.in_ok-params.params.items r (map leaf_of c.in_ok-code.code.items)
+      λ t. absurd (no_is_typed c.args.view.now c.in_ok-params.params.items r (map leaf_of c.in_ok-code.code.items)
           (c.in_ok-params.ensures ∙ ap (λ (f : FunctionType Label). f.params) f) (ap (λ (f : FunctionType Label). f.result) f) c.in_ok-code.ensures.instructions
           (told r c.in_ok-params.params.items c.deref.result.now c.in_ok-code.code.items c.deref-2.result.now c.in_ok-has_type.field-0 c.deref.ensures.value c.deref-2.ensures.value c.in_ok-has_type.ensures ∙ c.if-branch.false)
           bytes first t),
