@@ -1,7 +1,8 @@
 // The program: the command line over the files of the working directory and standard output.
 #![tactic(auto)]
 
-ghost use Rattle.std.specs.Prelude.{◌<◌};
+ghost use Rattle.std.specs.Prelude.{◌≡◌, Some, slice_get};
+ghost use Rattle.ctwasm.specs.Numbers.{statuses};
 
 use ctw_io::{DirShelf, OutSink};
 use ctwasm_top::{Status, ctwasm};
@@ -12,9 +13,9 @@ use std::process::ExitCode;
 /// Where the words can't be had from the system.
 const NO_WORDS: u8 = 8;
 
-/// The number of a status, which is never the one that says that there were no words.
+/// The number of a status, from 0 to 7; so it is never the one that says that there were no words.
 fn number(status: Status) -> u8
-    ensures { result < 8 }
+    ensures { slice_get statuses result ≡ Some status }
 {
     match status {
         Status::Done => 0,

@@ -18,3 +18,4 @@ pub mod Played
 pub mod Narrow
 pub mod Called
 pub mod Dispatched
+pub mod DoneTyped

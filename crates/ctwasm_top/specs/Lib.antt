@@ -13,3 +13,4 @@ pub mod Ending
 pub mod Answer
 pub mod Headline
 pub mod Loading
+pub mod TypedCalls

@@ -14,11 +14,12 @@ mod words;
 ghost use Rattle.std.specs.Prelude.{◌≡◌, ◌↔◌, List, ℕ, map, string_bytes, Some, None};
 ghost use Rattle.ctw_io.specs.Files.{Files};
 ghost use Rattle.ctw_io.specs.Faults.{Rose};
-ghost use Rattle.ctwasm_top.specs.declared.Status.TheVariants.{Usage, ReadFault, WriteFault, SaveFault};
+ghost use Rattle.ctwasm_top.specs.declared.Status.TheVariants.{Done, Usage, ReadFault, WriteFault, SaveFault};
 ghost use Rattle.ctwasm_top.specs.Usage.{usage_text};
 ghost use Rattle.ctwasm_top.specs.Words.{once_words, vault_word};
 ghost use Rattle.ctwasm_top.specs.Answer.{ends, answer, releases};
 ghost use Rattle.ctwasm_top.specs.Headline.{Did, DidTold, OtherVault, SameOutcome};
+ghost use Rattle.ctwasm_top.specs.TypedCalls.{CallsTyped};
 
 use ctw_io::{Shelf, Sink};
 use once::once;
@@ -101,6 +102,9 @@ pub fn ctwasm<F: Shelf, K: Sink>(
     // What was written and saved and the status are those of the answer, or a fault says how far it came.
     ensures did { (files : Files) → F.files shelf.old ≡ Some files
         → DidTold result (answer (map string_bytes words.now) files) files (F.files shelf.new) (K.taken out.old) (K.taken out.new) }
+
+    // A call is made only of a module whose body is typed.
+    ensures typed { (files : Files) → F.files shelf.old ≡ Some files → result ≡ Done → CallsTyped (map string_bytes words.now) files }
 
     // The two vaults: other bytes in VAULT, as many, by which the same is released, give the same bytes for out, the same
     // status and as many bytes to save.
