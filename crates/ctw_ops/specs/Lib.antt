@@ -6,3 +6,9 @@ pub mod Tree
 pub mod Typing
 pub mod Bodies
 pub mod Segments
+pub mod Valid
+pub mod Cut
+pub mod CutTyping
+pub mod Equal
+pub mod Erasure
+pub mod IndirectCalls

@@ -1,0 +1,12 @@
+pub mod Values
+pub mod Stores
+pub mod Instances
+pub mod Activations
+pub mod Answers
+pub mod Machine
+pub mod Steps
+pub mod Seen
+pub mod Places
+pub mod Sound
+pub mod Modules
+pub mod Erased
