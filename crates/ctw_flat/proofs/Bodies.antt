@@ -29,7 +29,7 @@ use Rattle.ctw_flat.specs.Bodies.{is_full, allows, opened_by, own_body, IsStep, 
 use Rattle.ctw_flat.proofs.Ops.{exact_op, op_filled}
 
 -- ---- the bytes that open a block
-abbrev OpensSome : First → Type 0
+abbrev pub OpensSome : First → Type 0
 OpensSome f = (o : Opener) × (f ≡ Direct (form.Opens o))
 
 opening_byte : (b : ℕ) → 2 ≤ b → b ≤ 4 → (b ≡ 2) ⊎ ((b ≡ 3) ⊎ (b ≡ 4))
@@ -47,7 +47,7 @@ opening_four : (f : First) → opcode 4 ≡ Ok f → OpensSome f
 unfolding opcode form_of is_float is_numeric control_form
 opening_four f e = (opener.If, sym (ok_is {F = CodeKind} _ f e))
 
-opening_form : (b : ℕ) (f : First) → within 0x02 0x04 b ≡ true → opcode b ≡ Ok f → OpensSome f
+pub opening_form : (b : ℕ) (f : First) → within 0x02 0x04 b ≡ true → opcode b ≡ Ok f → OpensSome f
 opening_form b f w e =
     let parts = and_parts (leb 2 b) (leb b 4) w in
     let low : 2 ≤ b = leb-true 2 b parts.0 in
@@ -81,7 +81,7 @@ full_not_allowed b outer s t f a =
     let lt : length outer < 4096 = ltb-true (length outer) 4096 a in
     omega arith
 
-not_deep : (b : Bool) (outer : List Bool) (text rest : List ℕ) (op : Op Label) → IsOp text op → allows (b ∷ outer) op ≡ true → (is_full (b ∷ outer) && opens_block (text ++ rest)) ≡ false
+pub not_deep : (b : Bool) (outer : List Bool) (text rest : List ℕ) (op : Op Label) → IsOp text op → allows (b ∷ outer) op ≡ true → (is_full (b ∷ outer) && opens_block (text ++ rest)) ≡ false
 not_deep b outer text rest op m a = go (is_full (b ∷ outer)) (opens_block (text ++ rest)) refl refl
   where
     go : (full opens : Bool) → is_full (b ∷ outer) ≡ full → opens_block (text ++ rest) ≡ opens → (full && opens) ≡ false
@@ -134,7 +134,7 @@ pub whole_steps : Whole (Items IsStep opened_by own_body) (items step_at opened_
 whole_steps = whole_items IsStep step_at opened_by exact_step step_filled own_body
 
 -- steps are opcodes
-steps_are : (around : List Bool) (text : List ℕ) (ops : List (Op Label)) → Items IsStep opened_by around text ops → IsOps text ops
+pub steps_are : (around : List Bool) (text : List ℕ) (ops : List (Op Label)) → Items IsStep opened_by around text ops → IsOps text ops
 steps_are around text [] m = m
 steps_are around text (op ∷ ops) m = (m.0, m.1, m.2.0, steps_are (opened_by around op) m.1 ops m.3, m.4)
 
@@ -189,7 +189,7 @@ allowed_body c le = allowed_onto c false [] (Closes ByEnd ∷ []) (omega arith) 
 pub body_limited : (c : Code Label) → Allowed own_body (opcodes c) → height c ≤ 4096
 body_limited c h = let r = allowed_height c false [] (Closes ByEnd ∷ []) (omega arith) h in omega (arith, r.0)
 
-are_steps : (around : List Bool) (text : List ℕ) (ops : List (Op Label)) → IsOps text ops → Allowed around ops → Items IsStep opened_by around text ops
+pub are_steps : (around : List Bool) (text : List ℕ) (ops : List (Op Label)) → IsOps text ops → Allowed around ops → Items IsStep opened_by around text ops
 are_steps around text [] m h = m
 are_steps around text (op ∷ ops) m h = (m.0, m.1, (m.2, h.0), are_steps (opened_by around op) m.1 ops m.3 h.1, m.4)
 

@@ -1,6 +1,6 @@
 -- The walk over a body: what it marked, what is open, and what they say of the whole body.
-use Rattle.std.proofs.Common.{◌≡◌, ℕ, ◌+◌, ◌-◌, ◌<◌, ◌≤◌, Bool, List, [], ◌∷◌, ◌++◌, length, reverse, Ok, Err, refl, sym, ap, subst, ◌∙◌, append_assoc, arith}
-use Rattle.std.proofs.lemmas.List.{append-nil, drop_all, nil_from_length, length-reverse, length-drop}
+use Rattle.std.proofs.Common.{◌≡◌, ℕ, ◌+◌, ◌-◌, ◌<◌, ◌≤◌, Bool, List, [], ◌∷◌, ◌++◌, length, Ok, Err, refl, sym, ap, subst, ◌∙◌, append_assoc, arith}
+use Rattle.std.proofs.lemmas.List.{append-nil, drop_all, length-drop}
 use Rattle.ctw_ops.specs.declared.types.Label.{Label}
 use Rattle.ctw_ops.specs.Code.{Code, Op, Plain, Opens, Closes, ByEnd, ByElse}
 use Rattle.ctw_leb.specs.Input.{Input}
@@ -123,16 +123,6 @@ pub walk_fails : (code : List ℕ) (around : List Bool) (i : Input) (marks : Lis
 walk_fails code around i marks NoMemory some h e = tt
 walk_fails code around i marks (Bad f) some h e = body_fault code around i f some h.going e
 
-none_open : (l : List Bool) → length l ≡ 0 → reverse l ≡ []
-none_open l e = nil_from_length (reverse l) (length-reverse l ∙ e)
-
-some_open : (l : List Bool) → 0 < length l → (b : Bool) × (bs : List Bool) × (reverse l ≡ b ∷ bs)
-some_open l lt = go (reverse l) (omega (arith, length-reverse l))
-  where
-    go : (m : List Bool) → 0 < length m → (b : Bool) × (bs : List Bool) × (m ≡ b ∷ bs)
-    go [] h = absurd (omega arith)
-    go (b ∷ bs) h = (b, bs, refl)
-
 -- where nothing is left, the walk stands at the length
 walk_end : (code : List ℕ) (around : List Bool) (i : Input) (marks : List Mark) → length i.rest ≡ 0 → Walked code around i marks → i.at ≡ 0 + length code
 walk_end code around i marks none h =
@@ -141,15 +131,15 @@ walk_end code around i marks none h =
     omega (arith, left, p.inside)
 
 -- nothing is left and nothing is open: a body
-pub walk_done : (code : List ℕ) (l : List Bool) (i : Input) (marks : List Mark) → length i.rest ≡ 0 → length l ≡ 0 → Walked code (reverse l) i marks → (c : Code Label) × (body_at (start code) ≡ Ok c)
-walk_done code l i marks none e h = body_done code i none (subst (λ (bs : List Bool). Going code bs i) (none_open l e) h.going)
+pub walk_done : (code : List ℕ) (around : List Bool) (i : Input) (marks : List Mark) → length i.rest ≡ 0 → length around ≡ 0 → Walked code around i marks → (c : Code Label) × (body_at (start code) ≡ Ok c)
+walk_done code [] i marks none e h = body_done code i none h.going
+walk_done code (b ∷ bs) i marks none e h = absurd (omega arith)
 
 -- nothing is left and something is open
-pub walk_open : (code : List ℕ) (l : List Bool) (i : Input) (marks : List Mark) → length i.rest ≡ 0 → 0 < length l → Walked code (reverse l) i marks → body_at (start code) ≡ Err (fault Unbalanced i.at)
-walk_open code l i marks none lt h =
-    let s = some_open l lt in
-    body_open code s.0 s.1 i none (subst (λ (bs : List Bool). Going code bs i) s.2 h.going)
-    ∙ ap (λ (n : ℕ). Err (fault Unbalanced n)) (sym (walk_end code (reverse l) i marks none h))
+pub walk_open : (code : List ℕ) (around : List Bool) (i : Input) (marks : List Mark) → length i.rest ≡ 0 → 0 < length around → Walked code around i marks → body_at (start code) ≡ Err (fault Unbalanced i.at)
+walk_open code [] i marks none lt h = absurd (omega arith)
+walk_open code (b ∷ bs) i marks none lt h =
+    body_open code b bs i none h.going ∙ ap (λ (n : ℕ). Err (fault Unbalanced n)) (sym (walk_end code (b ∷ bs) i marks none h))
 
 pub walk_stands : (code : List ℕ) (around : List Bool) (i : Input) (marks : List Mark) → length i.rest ≡ 0 → Walked code around i marks → (ps : List Placed) × Stand code 0 ps × (marks ≡ marks_of ps)
 walk_stands code around i marks none h =

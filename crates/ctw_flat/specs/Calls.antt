@@ -25,6 +25,11 @@ abbrev pub IsOkButMemory : {X : Type 0} → Result X BuildFault → Type 0
 IsOkButMemory (Ok x) = Unit {0}
 IsOkButMemory (Err e) = e ≡ NoMemory
 
+-- one instruction was read: its opcode, and what is open behind it
+abbrev pub Nests : {X : Type 0} → (X → Op Label) → Result X BuildFault → List Bool → List Bool → Input → Result (Op Label × Input) CodeFault → Type 0
+Nests op (Ok x) old_around new_around o read = (read ≡ Ok (op x, o)) × (new_around ≡ opened_by old_around (op x))
+Nests op (Err e) old_around new_around o read = FailsWith e read
+
 -- one instruction was read: what is open and what was marked behind it
 abbrev pub Steps : {X : Type 0} → Result X BuildFault → List Bool → List Bool → List Mark → List Mark → Input → Input → Result (Op Label × Input) CodeFault → Type 0
 Steps (Ok x) old_around new_around old_marks new_marks i o read = (op : Op Label) × (read ≡ Ok (op, o)) × (new_around ≡ opened_by old_around op) × (new_marks ≡ old_marks ++ marked i.at (role_of op))

@@ -1,6 +1,8 @@
 -- What an instruction in place stands for.
-use Rattle.std.specs.Prelude.{◌≡◌, ℕ, false, List, [], Result, Ok, Err}
+use Rattle.std.specs.Prelude.{◌≡◌, ◌<◌, ◌^◌, ℕ, false, List, [], Result, Ok, Err}
 use Rattle.ctw_ops.specs.declared.types.Label.{Label}
+use Rattle.ctw_ops.specs.declared.types.Width.{Width}
+use Rattle.ctw_ops.specs.declared.types.Width.TheVariants.{W32, W64}
 use Rattle.ctw_ops.specs.Code as ops
 use Rattle.ctw_ops.specs.Code.{Op, Plain}
 use Rattle.ctw_leb.specs.Grammar.{Times}
@@ -52,10 +54,16 @@ op_of (instr.Numeric op label) = Plain (ops.Numeric op label)
 op_of (instr.Classify width) = Plain (ops.Classify width)
 op_of (instr.Declassify width) = Plain (ops.Declassify width)
 
--- the lent bytes of a branch table spell its targets and nothing else, and a store isn't signed
+-- the numbers of a width are below 2 to its bits
+abbrev pub FitsWidth : Width → ℕ → Type 0
+FitsWidth W32 bits = bits < 2 ^ 32
+FitsWidth W64 bits = bits < 2 ^ 64
+
+-- the lent bytes of a branch table spell its targets and nothing else, a store isn't signed, and a constant's bits fit its width
 abbrev pub IsExactly : Instr → Type 0
 IsExactly (instr.BrTable targets count otherwise) = Times IsU32 count targets.now (targets_in count targets.now)
 IsExactly (instr.Store width label bytes signed align offset) = signed ≡ false
+IsExactly (instr.Const width label bits) = FitsWidth width bits
 IsExactly _ = Unit {0}
 
 -- the kinds of faults that one instruction has by itself

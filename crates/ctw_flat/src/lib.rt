@@ -14,6 +14,8 @@ pub use blocks::{Block, BlockMap, build};
 pub use body::Body;
 pub use fault::{BuildFault, CodeFault, CodeKind};
 pub use instr::Instr;
+pub use nesting::Nesting;
+pub use opcode::is_float_opcode;
 
 #[cfg(test)]
 mod tests;

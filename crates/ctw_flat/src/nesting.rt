@@ -1,10 +1,13 @@
-ghost use Rattle.std.specs.Prelude.{◌≡◌, ◌≤◌, ◌<◌, ◌^◌, ◌+◌, ◌++◌, length, reverse, IfOk, OnOk, ℕ, List, true};
+ghost use Rattle.std.specs.Prelude.{◌≡◌, ◌==◌, ◌&&◌, ◌≤◌, ◌<◌, ◌^◌, ◌+◌, ◌++◌, length, reverse, IfOk, OnOk, ℕ, List, true};
 ghost use Rattle.ctw_leb.specs.Input.{Input};
-ghost use Rattle.ctw_flat.specs.Instructions.{op_of};
+ghost use Rattle.ctw_flat.specs.declared.fault.BuildFault.TheVariants.{Bad};
+ghost use Rattle.ctw_flat.specs.declared.fault.CodeKind.TheVariants.{Unbalanced};
+ghost use Rattle.ctw_flat.specs.Read.{fault};
+ghost use Rattle.ctw_flat.specs.Instructions.{op_of, IsExactly};
 ghost use Rattle.ctw_flat.specs.Places.{Placed, Stand, from};
-ghost use Rattle.ctw_flat.specs.Bodies.{is_full as full, allows, opened_by, opens_block as opening, step_at, body_at};
+ghost use Rattle.ctw_flat.specs.Bodies.{is_full as full, allows, opened_by, own_body, opens_block as opening, step_at, body_at};
 ghost use Rattle.ctw_flat.specs.Marks.{role_of, marked, marks_of};
-ghost use Rattle.ctw_flat.specs.Calls.{Steps, Checks};
+ghost use Rattle.ctw_flat.specs.Calls.{Nests, Steps, Checks};
 
 use crate::blocks::{Mark, Role};
 use crate::fault::{BuildFault, CodeFault, CodeKind};
@@ -12,6 +15,7 @@ use crate::instr::Instr;
 use crate::reading::read_instr;
 use ctw_leb::Cursor;
 use std::alloc::{AllocError, Global};
+use std::marker::Model;
 
 /// How many blocks may be open in one another, the function's own body apart.
 const MOST_OPEN: usize = 4096;
@@ -77,39 +81,98 @@ fn note(marks: &mut Vec<Mark>, at: usize, instr: &Instr) -> Result<(), AllocErro
     Ok(())
 }
 
-/// Reads one instruction of a body.
-fn step(
-    around: &mut Vec<bool>,
-    marks: &mut Vec<Mark>,
-    cursor: &mut Cursor,
-) -> Result<(), BuildFault>
-    ensures { Steps result (reverse around.old.items) (reverse around.new.items) marks.old.items marks.new.items cursor.old cursor.new (step_at (reverse around.old.items) cursor.old) }
+/// What is open around a place while a body is read: the function's own body, and the blocks in it.
+///
+/// Contracts see a list, innermost first: true where an `else` may come.
+#[derive(Drop)]
+pub struct Nesting {
+    around: Vec<bool>,
+}
+
+impl Model for Nesting {
+    ghost use Rattle.std.specs.Prelude.{List, Bool, reverse};
+
+    ghost Value = { List Bool };
+
+    ghost view = { λ n. reverse n.around.items };
+}
+
+impl Nesting {
+    /// In front of a body: the body alone is open. `Err` where memory runs out.
+    pub fn new(alloc: Global) -> Result<Nesting, AllocError>
+        ensures { IfOk result (λ n. n ≡ own_body) }
+    {
+        let mut around = Vec::new(alloc);
+        around.push(false)?;
+        Ok(Nesting { around })
+    }
+
+    /// Whether the body's own `end` was read, so that nothing may stand behind it.
+    pub fn is_closed(&self) -> bool
+        ensures { result ≡ (length self.now == 0) }
+    {
+        self.around.is_empty()
+    }
+
+    /// Whether the opcode at the cursor opens a block inside as many as may be open.
+    pub fn is_too_deep(&self, cursor: &Cursor) -> bool
+        ensures { result ≡ (full self.now && opening cursor.now.rest) }
+    {
+        is_full(self.around.as_slice()) && opens_block(cursor)
+    }
+
+    /// Reads the next instruction of the body.
+    ///
+    /// `Unbalanced` where it may not stand there, `TooDeep` where it opens a block inside 4,096 others,
+    /// and the faults of `Body::instr_at`; their places are offsets in the cursor's file. After an `Err`
+    /// the cursor may stand anywhere, and reading can't go on.
+    pub fn step<'a>(&mut self, cursor: &mut Cursor<'a>) -> Result<Instr<'a>, BuildFault>
+        ensures read { Nests op_of result self.old self.new cursor.new (step_at self.old cursor.old) }
+        ensures exactly { IfOk result (λ i. IsExactly i) }
+    {
+        let place = cursor.place();
+        if self.is_closed() {
+            return Err(unbalanced(place));
+        }
+        if self.is_too_deep(cursor) {
+            return Err(BuildFault::Bad(CodeFault {
+                kind: CodeKind::TooDeep,
+                place,
+            }));
+        }
+        match read_instr(cursor) {
+            Ok(instr) => {
+                if !shift(&mut self.around, &instr)? {
+                    return Err(unbalanced(place));
+                }
+                Ok(instr)
+            }
+            Err(fault) => Err(BuildFault::Bad(fault)),
+        }
+    }
+}
+
+/// Something that may not stand at a place.
+fn unbalanced(place: u32) -> BuildFault
+    ensures { result ≡ Bad (fault Unbalanced place) }
+{
+    BuildFault::Bad(CodeFault {
+        kind: CodeKind::Unbalanced,
+        place,
+    })
+}
+
+/// Reads one instruction of a body, and notes it.
+fn step(nesting: &mut Nesting, marks: &mut Vec<Mark>, cursor: &mut Cursor) -> Result<(), BuildFault>
+    ensures { Steps result nesting.old nesting.new marks.old.items marks.new.items cursor.old cursor.new (step_at nesting.old cursor.old) }
 {
     let place = cursor.place();
-    if around.is_empty() {
-        return Err(BuildFault::Bad(CodeFault {
-            kind: CodeKind::Unbalanced,
-            place,
-        }));
-    }
-    if is_full(around.as_slice()) && opens_block(cursor) {
-        return Err(BuildFault::Bad(CodeFault {
-            kind: CodeKind::TooDeep,
-            place,
-        }));
-    }
-    match read_instr(cursor) {
+    match nesting.step(cursor) {
         Ok(instr) => {
-            if !shift(around, &instr)? {
-                return Err(BuildFault::Bad(CodeFault {
-                    kind: CodeKind::Unbalanced,
-                    place,
-                }));
-            }
             note(marks, place as usize, &instr)?;
             Ok(())
         }
-        Err(fault) => Err(BuildFault::Bad(fault)),
+        Err(fault) => Err(fault),
     }
 }
 
@@ -119,18 +182,14 @@ pub fn marks(alloc: Global, code: &[u8]) -> Result<Vec<Mark>, BuildFault>
     ensures checks { Checks result (body_at (record { at = 0; rest = code.now })) }
     ensures marks { IfOk result (λ v. (ps : List Placed) × Stand code.now 0 ps × (v.items ≡ marks_of ps)) }
 {
-    let mut around = Vec::new(alloc);
-    around.push(false)?;
+    let mut nesting = Nesting::new(alloc)?;
     let mut marks = Vec::new(alloc);
     let mut cursor = Cursor::new(code, 0);
     'body: while cursor.left() > 0 {
-        step(&mut around, &mut marks, &mut cursor)?;
+        step(&mut nesting, &mut marks, &mut cursor)?;
     }
-    if around.is_empty() {
+    if nesting.is_closed() {
         return Ok(marks);
     }
-    Err(BuildFault::Bad(CodeFault {
-        kind: CodeKind::Unbalanced,
-        place: cursor.place(),
-    }))
+    Err(unbalanced(cursor.place()))
 }

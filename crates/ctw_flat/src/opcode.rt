@@ -75,7 +75,7 @@ pub enum First {
     Prefix,
 }
 
-/// Whether a byte is an opcode of floats.
+/// Whether a byte is an opcode of floats of WebAssembly 1.0, which this profile has none of.
 #[tactic(auto, unfolding(crate::specs::Opcodes::is_float))]
 pub fn is_float_opcode(byte: u8) -> bool
     ensures { result ≡ is_float byte }

@@ -109,7 +109,8 @@ fn long_index(cursor: &mut Cursor) -> Result<u32, CodeFault>
 /// The bits of a number of 32 bits.
 #[tactic(auto, unfolding(crate::specs::Read::bits32_at))]
 fn bits32(cursor: &mut Cursor) -> Result<u64, CodeFault>
-    ensures { Finds (λ n. n) result cursor.new (bits32_at cursor.old) }
+    ensures read { Finds (λ n. n) result cursor.new (bits32_at cursor.old) }
+    ensures fits { IfOk result (λ n. n < 2 ^ 32) }
 {
     match cursor.read_s32() {
         Ok(n) => Ok(u64::from(n.cast_unsigned())),
@@ -245,11 +246,16 @@ fn constant<'a>(cursor: &mut Cursor, label: Label, width: Width) -> Result<Instr
     ensures instr { Finds op_of result cursor.new (constant_at label width cursor.old) }
     ensures exactly { IfOk result (λ i. IsExactly i) }
 {
-    let bits = match width {
-        Width::W32 => bits32(cursor)?,
-        Width::W64 => bits64(cursor)?,
-    };
-    Ok(Instr::Const { width, label, bits })
+    match width {
+        Width::W32 => {
+            let bits = bits32(cursor)?;
+            Ok(Instr::Const { width, label, bits })
+        }
+        Width::W64 => {
+            let bits = bits64(cursor)?;
+            Ok(Instr::Const { width, label, bits })
+        }
+    }
 }
 
 /// A numeric operation.

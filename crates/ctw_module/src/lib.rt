@@ -1,15 +1,32 @@
-// A view of a module's file.
+//! A module as a view of its file's bytes.
 #![tactic(auto)]
 
 mod bytes;
-mod code;
-mod first;
-mod straight;
-mod view;
-
-pub use first::{first_form, first_form_is_exact};
-pub use straight::{StraightInstr, StraightOp};
-pub use view::Module;
-
+mod constant;
+mod entry;
+mod fault;
+mod found;
+mod gather;
+pub mod items;
+pub mod laws;
+mod lists;
+mod locals;
+mod module;
+mod sections;
+mod slots;
+mod table;
 #[cfg(test)]
 mod tests;
+mod types;
+mod viewing;
+
+pub use constant::ConstExpr;
+pub use entry::{
+    ExportEntry, GlobalEntry, ImportEntry, ImportKind, LocalGroup, SegmentHead, TypeEntry,
+};
+pub use fault::{FormFault, FormKind};
+pub use module::Module;
+pub use sections::Seen;
+pub use table::{ConstantForm, EntryForm, Held, MemoryForm, SectionKind};
+pub use types::{Custom, Element, ExternKind, Global1, Import, Segment};
+pub use viewing::view;

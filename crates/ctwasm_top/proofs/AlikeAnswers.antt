@@ -1,16 +1,21 @@
 -- Two files that differ in the vault's bytes alone give the same answer, as long as the same is released.
-use Rattle.std.proofs.Common.{◌≡◌, ℕ, Bool, true, false, ◌||◌, List, [], ◌∷◌, length, Option, Some, None, option_map, refl, sym, ap, ap₂, ◌∙◌, subst, nat_le, cond}
+use Rattle.std.proofs.Common.{◌≡◌, ℕ, Bool, true, false, ◌||◌, List, [], ◌∷◌, length, Option, Some, None, Result, Ok, Err, option_map, refl, sym, ap, ap₂, ◌∙◌, subst, nat_le, cond}
 use Rattle.std.specs.FinMap.{get}
 use Rattle.std.specs.Str.{bytes_eq}
-use Rattle.ctw_module.specs.FirstReader.{first_form_of}
+use Rattle.ctw_ops.specs.declared.types.Label.{Label}
+use Rattle.ctw_ops.specs.Tree.{Module}
+use Rattle.ctw_module.specs.declared.fault.FormFault.{FormFault}
+use Rattle.ctw_module.specs.Read.{module_at}
+use Rattle.ctw_modcheck.specs.declared.fault.Invalid.{Invalid}
+use Rattle.ctw_modcheck.specs.Check.{fault_of}
 use Rattle.ctw_io.specs.Files.{Files}
 use Rattle.ctwasm_top.specs.declared.Status.{Status}
 use Rattle.ctwasm_top.specs.declared.Status.TheVariants as Statuses
 use Rattle.ctwasm_top.specs.declared.words.Argument.{Argument}
 use Rattle.ctwasm_top.specs.Session.{Callee, Move, State, opened, Run, plays}
 use Rattle.ctwasm_top.specs.Lines.{reply_lines}
-use Rattle.ctwasm_top.specs.Words.{OnceWords, once_words, vault_word, same_file, Arguments, Read, NoArgument, arguments_of}
-use Rattle.ctwasm_top.specs.Answer.{Outcome, ends, on_file, module_limit, vault_limit, callable, built, once_moves, finished, with_arguments, unless_same, once_call, once_answer, on_words, answer, releases}
+use Rattle.ctwasm_top.specs.Words.{OnceWords, Command, Check, Canon, Once, command_of, vault_in, vault_word, same_file, Arguments, Read, NoArgument, arguments_of}
+use Rattle.ctwasm_top.specs.Answer.{Outcome, ends, on_file, module_limit, vault_limit, on_form, on_fault, callable, built, once_moves, finished, with_arguments, unless_same, once_call, once_answer, on_words, answer, releases}
 use Rattle.ctwasm_top.specs.Headline.{OtherVault, saved_size, SameOutcome}
 use Rattle.ctwasm_top.proofs.Seen.{Agree}
 use Rattle.ctwasm_top.proofs.Same.{Same, same_quiet, same_ends}
@@ -52,6 +57,15 @@ built_same : (name : List ℕ) (o : Option Callee) (go go' : Callee → Outcome)
 built_same name None go go' h = ends_same Statuses.Refused _
 built_same name (Some f) go go' h = h f
 
+-- a module that both read
+form_same : (name : List ℕ) (r : Result (Module Label) FormFault) (go go' : Module Label → Outcome) → ((m : Module Label) → SameOutcomes (go m) (go' m)) → SameOutcomes (on_form name r go) (on_form name r go')
+form_same name (Err fault) go go' h = ends_same Statuses.Refused _
+form_same name (Ok m) go go' h = h m
+
+fault_same : (name : List ℕ) (o : Option Invalid) (p q : Outcome) → SameOutcomes p q → SameOutcomes (on_fault name o p) (on_fault name o q)
+fault_same name (Some fault) p q h = ends_same Statuses.Refused _
+fault_same name None p q h = h
+
 arguments_same : (r : Arguments) (go go' : List Argument → Outcome) → ((a : List Argument) → SameOutcomes (go a) (go' a)) → SameOutcomes (with_arguments r go) (with_arguments r go')
 arguments_same (NoArgument word) go go' h = ends_same Statuses.Refused _
 arguments_same (Read arguments) go go' h = h arguments
@@ -92,21 +106,25 @@ module _ (w : OnceWords) (f g : Files) (d : OtherVault w.vault f g) where
   call_same other arguments =
       file_same w.module_file module_limit (get f w.module_file) (get g w.module_file) _ _ (d.others w.module_file other) (λ bytes.
       vault_same w.vault vault_limit (get f w.vault) (get g w.vault) _ _ d.long (λ v v' e.
-      built_same w.module_file (callable w.export arguments (first_form_of bytes)) _ _ (λ callee.
-      finished_same w.sealed callee (once_moves arguments) (opened v) (opened v') (opened_alike v v' e))))
+      form_same w.module_file (module_at bytes) _ _ (λ m.
+      fault_same w.module_file (fault_of m) _ _
+      (built_same w.module_file (callable w.export arguments m) _ _ (λ callee.
+      finished_same w.sealed callee (once_moves arguments) (opened v) (opened v') (opened_alike v v' e))))))
 
   once_same : SameOutcomes (once_answer f w) (once_answer g w)
   once_same = unless_alike (same_file w) _ _ (λ e.
       arguments_same (arguments_of w.arguments) _ _ (call_same
       (none_same (bytes_eq w.module_file w.vault) (bytes_eq w.sealed w.vault) (bytes_eq w.module_file w.sealed) w.vault w.sealed e)))
 
-words_same : (o : Option OnceWords) (vault : List ℕ) (f g : Files) → option_map (λ w. w.vault) o ≡ Some vault → OtherVault vault f g → SameOutcomes (on_words f o) (on_words g o)
+words_same : (o : Option Command) (vault : List ℕ) (f g : Files) → vault_in o ≡ Some vault → OtherVault vault f g → SameOutcomes (on_words f o) (on_words g o)
 words_same None vault f g e d = cc
-words_same (Some w) vault f g e d = let q : vault ≡ w.vault = cc in once_same w f g (subst (λ v. OtherVault v f g) q d)
+words_same (Some (Check file)) vault f g e d = cc
+words_same (Some (Canon file)) vault f g e d = cc
+words_same (Some (Once w)) vault f g e d = let q : vault ≡ w.vault = cc in once_same w f g (subst (λ v. OtherVault v f g) q d)
 
 -- the two-vault theorem of the program
 pub answer_alike : (words : List (List ℕ)) (vault : List ℕ) (f g : Files) → vault_word words ≡ Some vault → OtherVault vault f g → releases words g ≡ releases words f → SameOutcome (answer words g) (answer words f)
 unfolding answer
 answer_alike words vault f g e d r =
-    let q = same_ends (words_same (once_words words) vault f g e d).by (sym r) in
+    let q = same_ends (words_same (command_of words) vault f g e d).by (sym r) in
     record { out = ap (λ x. x.0) (sym q); status = ap (λ x. x.1.0) (sym q); saved = ap (λ x. x.1.1) (sym q) }

@@ -4,7 +4,7 @@ use Rattle.std.proofs.lemmas.Bool.Decides.{nat_tests}
 use Rattle.ctw_ops.specs.declared.types.Label.{Label}
 use Rattle.ctw_ops.specs.declared.types.Width.TheVariants.{W32}
 use Rattle.ctw_ops.specs.Types.{ValueType}
-use Rattle.ctw_module.specs.FirstForm.{IsNarrow}
+use Rattle.ctwasm_top.specs.Checked.{IsNarrow}
 use Rattle.ctwasm_top.specs.declared.words.Argument.{Argument}
 use Rattle.ctwasm_top.specs.declared.words.Argument.TheVariants.{Number, Vault}
 use Rattle.ctwasm_top.specs.Session.{byte_count, from_bytes, fits_one, fits, needed, values}

@@ -5,41 +5,43 @@ use Rattle.ctwasm_top.specs.declared.Status.{Status}
 use Rattle.ctwasm_top.specs.declared.Status.TheVariants as Statuses
 use Rattle.ctwasm_top.specs.declared.words.Argument.{Argument}
 use Rattle.ctwasm_top.specs.OnceWords.{OnceWords}
-use Rattle.ctwasm_top.specs.Usage.{usage_text}
-use Rattle.ctwasm_top.specs.Words.{once_words, same_file, Arguments, Read, NoArgument, arguments_of}
-use Rattle.ctwasm_top.specs.Answer.{Outcome, ends, refuses, unless_same, with_arguments, once_call, once_answer, on_words, answer}
+use Rattle.ctwasm_top.specs.Words.{Command, command_of, same_file, Arguments, Read, NoArgument, arguments_of}
+use Rattle.ctwasm_top.specs.Answer.{Outcome, refuses, unless_same, with_arguments, once_call, once_answer, on_words, answer}
 use Rattle.ctwasm_top.specs.Headline.{Did, DidTold}
 
-module _ (words : List (List ℕ)) (files : Files) (status : Status) (taken took : Option (List ℕ)) where
-  -- no form
-  pub no_words : (after : Option Files) → after ≡ Some files → once_words words ≡ None → Did status (ends Statuses.Usage usage_text) files files taken took → DidTold status (answer words files) files after taken took
-  unfolding answer
-  no_words after told e d = record { files = files; told = told; did = subst (λ (o : Option OnceWords). Did status (on_words files o) files files taken took) (sym e) d }
+module _ (files : Files) (w : OnceWords) (status : Status) (taken took : Option (List ℕ)) where
+  -- one file under two words
+  pub same_words : (after : Option Files) (word : List ℕ) → after ≡ Some files → same_file w ≡ Some word → Did status (refuses (codes "SameFile") word) files files taken took → DidTold status (once_answer files w) files after taken took
+  same_words after word told f d = record {
+    files = files;
+    told = told;
+    did = subst (λ (a : Outcome). Did status a files files taken took) (sym (ap (λ (o : Option (List ℕ)). unless_same o (with_arguments (arguments_of w.arguments) (once_call files w))) f)) d;
+  }
 
-  module _ (w : OnceWords) (e : once_words words ≡ Some w) where
-    is_once : answer words files ≡ once_answer files w
-    unfolding answer
-    is_once = ap (on_words files) e
+  -- a word that is no argument
+  pub bad_words : (after : Option Files) (word : List ℕ) → after ≡ Some files → same_file w ≡ None → arguments_of w.arguments ≡ NoArgument word → Did status (refuses (codes "NotBuilt") word) files files taken took → DidTold status (once_answer files w) files after taken took
+  bad_words after word told f a d = record {
+    files = files;
+    told = told;
+    did = subst (λ (a : Outcome). Did status a files files taken took)
+        (sym (ap (λ (o : Option (List ℕ)). unless_same o (with_arguments (arguments_of w.arguments) (once_call files w))) f ∙ ap (λ (r : Arguments). with_arguments r (once_call files w)) a)) d;
+  }
 
-    -- one file under two words
-    pub same_words : (after : Option Files) (word : List ℕ) → after ≡ Some files → same_file w ≡ Some word → Did status (refuses (codes "SameFile") word) files files taken took → DidTold status (answer words files) files after taken took
-    same_words after word told f d = record {
-      files = files;
-      told = told;
-      did = subst (λ (a : Outcome). Did status a files files taken took) (sym (is_once ∙ ap (λ (o : Option (List ℕ)). unless_same o (with_arguments (arguments_of w.arguments) (once_call files w))) f)) d;
-    }
+  -- all words are read
+  pub good_words : (after : Option Files) (arguments : List Argument) → same_file w ≡ None → arguments_of w.arguments ≡ Read arguments → DidTold status (once_call files w arguments) files after taken took → DidTold status (once_answer files w) files after taken took
+  good_words after arguments f a d =
+      subst (λ (a : Outcome). DidTold status a files after taken took)
+      (sym (ap (λ (o : Option (List ℕ)). unless_same o (with_arguments (arguments_of w.arguments) (once_call files w))) f ∙ ap (λ (r : Arguments). with_arguments r (once_call files w)) a)) d
 
-    -- a word that is no argument
-    pub bad_words : (after : Option Files) (word : List ℕ) → after ≡ Some files → same_file w ≡ None → arguments_of w.arguments ≡ NoArgument word → Did status (refuses (codes "NotBuilt") word) files files taken took → DidTold status (answer words files) files after taken took
-    bad_words after word told f a d = record {
-      files = files;
-      told = told;
-      did = subst (λ (a : Outcome). Did status a files files taken took)
-          (sym (is_once ∙ ap (λ (o : Option (List ℕ)). unless_same o (with_arguments (arguments_of w.arguments) (once_call files w))) f ∙ ap (λ (r : Arguments). with_arguments r (once_call files w)) a)) d;
-    }
+-- the words of a command
+pub on_command : (words : List (List ℕ)) (files : Files) (status : Status) (after : Option Files) (taken took : Option (List ℕ)) (o : Option Command) → command_of words ≡ o → DidTold status (on_words files o) files after taken took
+    → DidTold status (answer words files) files after taken took
+unfolding answer
+on_command words files status after taken took o e d = subst (λ (o : Option Command). DidTold status (on_words files o) files after taken took) (sym e) d
 
-    -- all words are read
-    pub good_words : (after : Option Files) (arguments : List Argument) → same_file w ≡ None → arguments_of w.arguments ≡ Read arguments → DidTold status (once_call files w arguments) files after taken took → DidTold status (answer words files) files after taken took
-    good_words after arguments f a d =
-        subst (λ (a : Outcome). DidTold status a files after taken took)
-        (sym (is_once ∙ ap (λ (o : Option (List ℕ)). unless_same o (with_arguments (arguments_of w.arguments) (once_call files w))) f ∙ ap (λ (r : Arguments). with_arguments r (once_call files w)) a)) d
+-- what Done and Refused say of the answer
+pub done_answer : (words : List (List ℕ)) (files : Files) (status : Status) (after : Option Files) (taken took : Option (List ℕ)) → DidTold status (answer words files) files after taken took → status ≡ Statuses.Done → (answer words files).status ≡ Statuses.Done
+done_answer words files status after taken took d e = sym (subst (λ (s : Status). DidTold s (answer words files) files after taken took) e d).did.0
+
+pub refused_answer : (words : List (List ℕ)) (files : Files) (status : Status) (after : Option Files) (taken took : Option (List ℕ)) → DidTold status (answer words files) files after taken took → status ≡ Statuses.Refused → (answer words files).status ≡ Statuses.Refused
+refused_answer words files status after taken took d e = sym (subst (λ (s : Status). DidTold s (answer words files) files after taken took) e d).did.0

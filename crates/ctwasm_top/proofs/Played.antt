@@ -1,9 +1,9 @@
 -- What `once` has done at each point of its two moves.
 use Rattle.std.proofs.Common.{◌≡◌, ◌⊎◌, inr, ℕ, Bool, true, List, ◌++◌, length, Option, Some, None, option_map, All, IfSome, is_some, if◌then◌else◌, refl, sym, ap, ap₂, ◌∙◌, subst}
-use Rattle.ctw_module.specs.FirstForm.{IsNarrow}
 use Rattle.ctw_io.specs.Files.{Files}
 use Rattle.ctw_io.specs.Taken.{grown, TookPrefix}
 use Rattle.ctw_io.proofs.Taking.{took_none}
+use Rattle.ctwasm_top.specs.Checked.{IsNarrow}
 use Rattle.ctwasm_top.specs.declared.words.Argument.{Argument}
 use Rattle.ctwasm_top.specs.declared.Status.{Status}
 use Rattle.ctwasm_top.specs.declared.Status.TheVariants.{ReadFault, WriteFault, NoMemory}

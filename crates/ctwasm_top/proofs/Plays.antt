@@ -2,13 +2,12 @@
 use Rattle.std.proofs.Common.{◌≡◌, ℕ, ◌<◌, Bool, true, false, List, [], ◌∷◌, ◌++◌, length, drop, Option, Some, None, All, IfSome, is_some, if◌then◌else◌, append-nil, refl, sym, ap, ◌∙◌, subst, arith, nat_le}
 use Rattle.std.proofs.lemmas.List.{length-map}
 use Rattle.std.proofs.lemmas.Bool.Decides.{nat_tests}
-use Rattle.ctw_module.specs.FirstForm.{IsNarrow}
 use Rattle.ctwasm_top.specs.declared.words.Argument.{Argument}
 use Rattle.ctwasm_top.specs.declared.words.Argument.TheVariants.{Number, Vault}
 use Rattle.ctwasm_top.specs.Machine.{Value, value, Turned, turn}
 use Rattle.ctwasm_top.specs.Session.{Callee, Move, Reply, Refused, Done, Began, VaultShort, SlotFree, State, Played, opened, answered, refused, byte_count, fits_one, fits, needed, values, called, with_call, checked, free_slot, begin, most_steps, shown, sealed_by, turned, turning, play, Run, plays}
 use Rattle.ctwasm_top.specs.Valid.{Stack}
-use Rattle.ctwasm_top.specs.Checked.{RunsTo}
+use Rattle.ctwasm_top.specs.Checked.{RunsTo, IsNarrow}
 use Rattle.ctwasm_top.specs.Lines.{reply_line, reply_lines}
 use Rattle.ctwasm_top.specs.Ending.{IsEnding}
 use Rattle.ctwasm_top.specs.Calls.{words_of}

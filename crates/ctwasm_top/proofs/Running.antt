@@ -6,9 +6,9 @@ use Rattle.ctw_ops.specs.declared.types.Label.{Label}
 use Rattle.ctw_ops.specs.Types.{ValueType}
 use Rattle.ctw_ops.specs.Code.{Leaf, straight}
 use Rattle.ctw_ops.specs.Typing.{optional}
-use Rattle.ctw_module.specs.declared.straight.StraightInstr.{StraightInstr}
-use Rattle.ctw_module.specs.declared.straight.StraightInstr.TheVariants.{Classify}
-use Rattle.ctw_module.specs.Straight.{leaf_of}
+use Rattle.ctwasm_top.specs.declared.straight.StraightInstr.{StraightInstr}
+use Rattle.ctwasm_top.specs.declared.straight.StraightInstr.TheVariants.{Classify}
+use Rattle.ctwasm_top.specs.StraightInstrs.{leaf_of}
 use Rattle.ctwasm_top.specs.Machine.{Value, value, Activation, Answer, Goes, Ended, Reduced, quiet, typed, same_type, red, free, Stepped, after, reductions, step, Left, Running, Finished, Turned, with_step, stops, turns_on, turn}
 use Rattle.ctwasm_top.specs.Valid.{Stack, same_types, ends_with}
 use Rattle.ctwasm_top.specs.WordSteps.{CanStep, WordStep, costs, ended}
@@ -174,7 +174,7 @@ pub costs_small : (i : StraightInstr) → costs i ≤ 1
 costs_small Classify = omega arith
 costs_small _ = omega arith
 
-few_steps : (count : ℕ) → count ≤ 127 → count < most_steps
+few_steps : (count : ℕ) → count ≤ 1000 → count < most_steps
 unfolding most_steps
 few_steps count h = omega (arith, h)
 
@@ -209,7 +209,7 @@ module _ (ty : Option (ValueType Label)) (code : List StraightInstr) (arguments 
     ends = λ vs t n.
         let start = called (callee params ty (leaves_of code)) vs in
         let r : Reached params ty start count [] words stack = subst (λ (rest : List StraightInstr). Reached params ty start count rest words stack) (drop_all index code h) (here.calls params c vs t n) in
-        let few : length code ≤ 127 = rw (sym (length-map code leaf_of)) c.few in
+        let few : length code ≤ 1000 = rw (sym (length-map code leaf_of)) c.few in
         let small : count < most_steps = few_steps count (omega (arith, few, here.few, k)) in
         let m : suc (most_steps - suc count) + count ≡ most_steps = omega (arith, small) in
         ap (λ (j : ℕ). turn j start) (sym m) ∙ reached_end params ty start count words stack r (most_steps - suc count)
@@ -222,5 +222,5 @@ written_back items new len e f =
     ap (λ (l : List ℕ). take len (new ++ l)) (drop_all (length new) items (omega (arith, f)))
     ∙ ap (take len) (append-nil new) ∙ ap (λ (n : ℕ). take n new) (e ∙ sym f) ∙ take-length new
 
-pub few_code : (params : Stack) (ty : Option (ValueType Label)) (code : List StraightInstr) → IsChecked params ty (leaves_of code) → length code ≤ 127
+pub few_code : (params : Stack) (ty : Option (ValueType Label)) (code : List StraightInstr) → IsChecked params ty (leaves_of code) → length code ≤ 1000
 few_code params ty code c = rw (sym (length-map code leaf_of)) c.few

@@ -1,19 +1,26 @@
 -- The answer of the program: what its words give over told files.
-use Rattle.std.specs.Prelude.{ℕ, Bool, ◌&&◌, List, [], ◌∷◌, length, Option, Some, None, if◌then◌else◌, nat_le, codes}
-use Rattle.std.specs.Str.{bytes_eq}
+use Rattle.std.specs.Prelude.{ℕ, Bool, true, false, ◌&&◌, List, [], ◌∷◌, length, Option, Some, None, Result, Ok, Err, if◌then◌else◌, nat_le, codes}
 use Rattle.std.specs.FinMap.{get}
-use Rattle.ctw_module.specs.FirstForm.{FirstForm}
-use Rattle.ctw_module.specs.FirstReader.{first_form_of}
+use Rattle.ctw_ops.specs.declared.types.Label.{Label}
+use Rattle.ctw_ops.specs.declared.types.ExternTag.{ExternTag}
+use Rattle.ctw_ops.specs.declared.types.ExternTag.TheVariants.{Func}
+use Rattle.ctw_ops.specs.Tree.{Module}
+use Rattle.ctw_module.specs.declared.fault.FormFault.{FormFault}
+use Rattle.ctw_module.specs.Read.{module_at}
+use Rattle.ctw_module.specs.Lookup.{export_in}
+use Rattle.ctw_write.specs.Canon.{canon}
+use Rattle.ctw_modcheck.specs.declared.fault.Invalid.{Invalid}
+use Rattle.ctw_modcheck.specs.Check.{fault_of}
 use Rattle.ctw_io.specs.Files.{Files}
 use Rattle.ctwasm_top.specs.declared.Status.{Status}
 use Rattle.ctwasm_top.specs.declared.Status.TheVariants.{Done, Refused, Usage}
 use Rattle.ctwasm_top.specs.Session.{Callee, Move, Begin, Turn, opened, Run, plays, most_steps, fits}
 use Rattle.ctwasm_top.specs.declared.words.Argument.{Argument}
-use Rattle.ctwasm_top.specs.Lines.{reply_lines, refusal_line}
+use Rattle.ctwasm_top.specs.Lines.{reply_lines, refusal_line, read_line, check_line}
 use Rattle.ctwasm_top.specs.Usage.{usage_text}
-use Rattle.ctwasm_top.specs.Words.{OnceWords, once_words, same_file, Arguments, Read, NoArgument, arguments_of}
-use Rattle.ctwasm_top.specs.Valid.{is_typed}
-use Rattle.ctwasm_top.specs.Checked.{straight_function, callee_of}
+use Rattle.ctwasm_top.specs.Words.{OnceWords, Command, Check, Canon, Once, command_of, same_file, Arguments, Read, NoArgument, arguments_of}
+use Rattle.ctwasm_top.specs.Straight.{straight_of}
+use Rattle.ctwasm_top.specs.Checked.{StraightFunction, callee_of}
 
 -- the bytes for out, the file that is saved with its bytes, the status, and what the run behind it released
 pub record Outcome : Type 0 where
@@ -45,15 +52,53 @@ on_file name limit (Some bytes) go = if nat_le (length bytes) limit then go byte
 abbrev pub load : Files → List ℕ → ℕ → (List ℕ → Outcome) → Outcome
 load files name limit go = on_file name limit (get files name) go
 
+-- ---- modules
+
+-- a file's module, where the bytes spell one
+abbrev pub on_form : List ℕ → Result (Module Label) FormFault → (Module Label → Outcome) → Outcome
+on_form name (Err fault) go = ends Refused (read_line name fault)
+on_form name (Ok m) go = go m
+
+abbrev pub read : List ℕ → List ℕ → (Module Label → Outcome) → Outcome
+read name bytes go = on_form name (module_at bytes) go
+
+abbrev pub on_fault : List ℕ → Option Invalid → Outcome → Outcome
+on_fault name (Some fault) go = ends Refused (check_line name fault)
+on_fault name None go = go
+
+-- goes on where the module is valid
+abbrev pub check : List ℕ → Module Label → Outcome → Outcome
+check name m go = on_fault name (fault_of m) go
+
+-- a file's module, where the bytes spell one that is valid
+abbrev pub read_valid : List ℕ → List ℕ → (Module Label → Outcome) → Outcome
+read_valid name bytes go = read name bytes (λ m. check name m (go m))
+
+-- ---- the commands `check` and `canon`
+
+abbrev pub check_answer : Files → List ℕ → Outcome
+check_answer files name = load files name module_limit (λ bytes. read_valid name bytes (λ m. ends Done (codes "ok\n")))
+
+abbrev pub canon_answer : Files → List ℕ → Outcome
+canon_answer files name = load files name module_limit (λ bytes. read name bytes (λ m. ends Done (canon m)))
+
 -- ---- the call that the words ask for
 
--- whether the module's body is typed, and its export is called with arguments that fit
-abbrev pub is_callable : FirstForm → List ℕ → List Argument → Bool
-is_callable f export arguments = is_typed f && bytes_eq f.name export && fits f.params arguments
+abbrev pub is_function : Option (ExternTag × ℕ) → Bool
+is_function (Some (Func, index)) = true
+is_function _ = false
 
-abbrev pub callable : List ℕ → List Argument → Option FirstForm → Option Callee
-callable export arguments None = None
-callable export arguments (Some f) = if is_callable f export arguments then Some (callee_of (straight_function f)) else None
+-- whether a function is exported under the name, and the arguments fit
+abbrev pub is_callable : Module Label → List ℕ → List Argument → StraightFunction → Bool
+is_callable m export arguments f = is_function (export_in export m.exports) && fits f.params arguments
+
+abbrev pub callable_in : Module Label → List ℕ → List Argument → Option StraightFunction → Option Callee
+callable_in m export arguments None = None
+callable_in m export arguments (Some f) = if is_callable m export arguments f then Some (callee_of f) else None
+
+-- the function that is called; None where the module isn't straight, exports no function under the name, or the arguments don't fit
+abbrev pub callable : List ℕ → List Argument → Module Label → Option Callee
+callable export arguments m = callable_in m export arguments (straight_of m)
 
 abbrev pub built : List ℕ → Option Callee → (Callee → Outcome) → Outcome
 built name None go = refuses (codes "NotBuilt") name
@@ -79,24 +124,31 @@ abbrev pub unless_same : Option (List ℕ) → Outcome → Outcome
 unless_same (Some word) go = refuses (codes "SameFile") word
 unless_same None go = go
 
--- what is called over these files
+-- over the module's bytes and the vault's
+abbrev pub module_call : OnceWords → List Argument → List ℕ → List ℕ → Outcome
+module_call w arguments bytes vault =
+    read_valid w.module_file bytes (λ m.
+    built w.module_file (callable w.export arguments m) (λ f.
+    finished w.sealed (plays f (opened vault) (once_moves arguments))))
+
 abbrev pub once_call : Files → OnceWords → List Argument → Outcome
-once_call files w arguments =
-    load files w.module_file module_limit (λ bytes.
-    load files w.vault vault_limit (λ vault.
-    built w.module_file (callable w.export arguments (first_form_of bytes)) (λ f.
-    finished w.sealed (plays f (opened vault) (once_moves arguments)))))
+once_call files w arguments = load files w.module_file module_limit (λ bytes. load files w.vault vault_limit (λ vault. module_call w arguments bytes vault))
 
 abbrev pub once_answer : Files → OnceWords → Outcome
 once_answer files w = unless_same (same_file w) (with_arguments (arguments_of w.arguments) (once_call files w))
 
-abbrev pub on_words : Files → Option OnceWords → Outcome
+abbrev pub command_answer : Files → Command → Outcome
+command_answer files (Check file) = check_answer files file
+command_answer files (Canon file) = canon_answer files file
+command_answer files (Once w) = once_answer files w
+
+abbrev pub on_words : Files → Option Command → Outcome
 on_words files None = ends Usage usage_text
-on_words files (Some w) = once_answer files w
+on_words files (Some command) = command_answer files command
 
 -- what the words give over these files
 unfoldable pub answer : List (List ℕ) → Files → Outcome
-answer words files = on_words files (once_words words)
+answer words files = on_words files (command_of words)
 
 -- what the run behind the answer released; nothing where no run begins
 abbrev pub releases : List (List ℕ) → Files → List ℕ

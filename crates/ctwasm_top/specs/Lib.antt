@@ -4,6 +4,7 @@ pub mod Lines
 pub mod Usage
 pub mod OnceWords
 pub mod Words
+pub mod Commands
 pub mod Arguments
 pub mod Valid
 pub mod WordSteps
@@ -13,4 +14,7 @@ pub mod Ending
 pub mod Answer
 pub mod Headline
 pub mod Loading
-pub mod TypedCalls
+pub mod ValidCalls
+pub mod Straight
+pub mod StraightInstrs
+pub mod Modules

@@ -1,15 +1,10 @@
--- Which straight code has its function's type, decided by one pass over a stack of types.
+-- The types on the stack behind straight instructions, by one pass.
 use Rattle.std.specs.Prelude.{◌≡◌, Bool, true, false, ◌&&◌, List, [], ◌∷◌, Option, Some, None, slice_get, if◌then◌else◌}
 use Rattle.ctw_ops.specs.declared.types.Label.{Label}
 use Rattle.ctw_ops.specs.declared.types.Label.TheVariants.{Public, Secret}
 use Rattle.ctw_ops.specs.declared.types.Width.TheVariants.{W32}
 use Rattle.ctw_ops.specs.Types.{ValueType, value_type}
-use Rattle.ctw_ops.specs.Tree.{Function}
-use Rattle.ctw_ops.specs.Bodies.{HasItsType}
-use Rattle.ctw_module.specs.FirstTree.{tree_of}
-use Rattle.ctw_ops.specs.Code.{straight, Leaf, Drop, LocalGet, LocalSet, LocalTee, Const, Numeric, Classify}
-use Rattle.ctw_ops.specs.Typing.{optional}
-use Rattle.ctw_module.specs.FirstForm.{FirstForm}
+use Rattle.ctw_ops.specs.Code.{Leaf, Drop, LocalGet, LocalSet, LocalTee, Const, Numeric, Classify}
 use Rattle.ctwasm_top.specs.Machine.{same_type}
 
 abbrev pub Stack : Type 0
@@ -32,7 +27,7 @@ without_any (u ∷ stack) = Some stack
 abbrev pub replaced : ValueType Label → ValueType Label → Stack → Option Stack
 replaced takes gives stack = and_then (without takes stack) (λ below. Some (gives ∷ below))
 
--- the stack behind an instruction of the first form
+-- the stack behind an instruction
 abbrev pub pass : Stack → Leaf Label → Stack → Option Stack
 pass locals Drop stack = without_any stack
 pass locals (LocalGet x) stack = and_then (slice_get locals x) (λ t. Some (t ∷ stack))
@@ -57,18 +52,6 @@ same_types _ _ = false
 abbrev pub ends_with : Stack → Option Stack → Bool
 ends_with wanted None = false
 ends_with wanted (Some stack) = same_types stack wanted
-
--- the body of a first form has its function's type
-unfoldable pub is_typed : FirstForm → Bool
-is_typed f = ends_with (optional f.result) (pass_all f.params f.code [])
-
--- the function of a first form
-abbrev pub function_of : FirstForm → Function Label
-function_of f = record { type = 0; locals = []; body = straight f.code }
-
--- the body has its function's type, by the rows of the typing
-abbrev pub IsTypedForm : FirstForm → Type 0
-IsTypedForm f = HasItsType (tree_of f) (function_of f)
 
 -- a part of the pass went through, and left this stack; or it didn't
 abbrev pub Passes : Bool → Option Stack → Stack → Type 0

@@ -2,9 +2,9 @@
 use Rattle.std.specs.Prelude.{◌≡◌, ◌<◌, ◌-◌, ℕ, List, [], ◌∷◌, ◌++◌, length, Option, Some, None, slice_get, slice_set, slice_index}
 use Rattle.ctw_ops.specs.declared.types.Label.{Label}
 use Rattle.ctw_ops.specs.Types.{ValueType}
-use Rattle.ctw_module.specs.declared.straight.StraightInstr.{StraightInstr}
-use Rattle.ctw_module.specs.declared.straight.StraightInstr.TheVariants.{Drop, LocalGet, LocalSet, LocalTee, Const, Binary, Classify}
-use Rattle.ctw_module.specs.Straight.{opcode_of}
+use Rattle.ctwasm_top.specs.declared.straight.StraightInstr.{StraightInstr}
+use Rattle.ctwasm_top.specs.declared.straight.StraightInstr.TheVariants.{Drop, LocalGet, LocalSet, LocalTee, Const, Binary, Classify}
+use Rattle.ctwasm_top.specs.StraightInstrs.{opcode_of}
 use Rattle.ctwasm_top.specs.Machine.{Value, value, arithmetic}
 
 -- what the instruction takes is there

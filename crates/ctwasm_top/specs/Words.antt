@@ -18,9 +18,28 @@ once_words (command ∷ m ∷ vault ∷ sealed ∷ export ∷ arguments) =
     else None
 once_words _ = None
 
+-- the commands: `check M`, `canon M`, `once M VAULT SEALED EXPORT ARG..`
+pub data Command : Type 0 where
+  Check : (module_file : List ℕ) → Command
+  Canon : (module_file : List ℕ) → Command
+  Once : (words : OnceWords) → Command
+
+-- a command with one file
+abbrev pub file_command : List ℕ → List ℕ → Option Command
+file_command command file = if bytes_eq command (codes "check") then Some (Check file) else if bytes_eq command (codes "canon") then Some (Canon file) else None
+
+-- the command that the words have the form of
+abbrev pub command_of : List (List ℕ) → Option Command
+command_of (command ∷ file ∷ []) = file_command command file
+command_of words = option_map Once (once_words words)
+
 -- the word of a command's vault, where the command has one
+abbrev pub vault_in : Option Command → Option (List ℕ)
+vault_in (Some (Once w)) = Some w.vault
+vault_in _ = None
+
 abbrev pub vault_word : List (List ℕ) → Option (List ℕ)
-vault_word words = option_map (λ w. w.vault) (once_words words)
+vault_word words = vault_in (command_of words)
 
 -- the first of VAULT and SEALED that names a file which another word names too
 abbrev pub same_file : OnceWords → Option (List ℕ)

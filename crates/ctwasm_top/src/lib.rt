@@ -1,31 +1,38 @@
 // The command line of `ctwasm` over files and a sink.
 #![tactic(auto)]
 
+mod callable;
+mod commands;
+mod function;
 mod lines;
 mod machine;
+mod modules;
 mod once;
 mod outside;
 mod session;
+mod straight;
 #[cfg(test)]
 mod tests;
-mod validator;
+#[cfg(test)]
+mod validity_tests;
 mod words;
 
-ghost use Rattle.std.specs.Prelude.{◌≡◌, ◌↔◌, List, ℕ, map, string_bytes, Some, None};
+ghost use Rattle.std.specs.Prelude.{◌≡◌, List, ℕ, map, string_bytes, Some, None};
 ghost use Rattle.ctw_io.specs.Files.{Files};
 ghost use Rattle.ctw_io.specs.Faults.{Rose};
-ghost use Rattle.ctwasm_top.specs.declared.Status.TheVariants.{Done, Usage, ReadFault, WriteFault, SaveFault};
+ghost use Rattle.ctwasm_top.specs.declared.Status.TheVariants.{Done, Refused, Usage, ReadFault, WriteFault, SaveFault};
 ghost use Rattle.ctwasm_top.specs.Usage.{usage_text};
-ghost use Rattle.ctwasm_top.specs.Words.{once_words, vault_word};
+ghost use Rattle.ctwasm_top.specs.Words.{OnceWords, Once, command_of, vault_word};
 ghost use Rattle.ctwasm_top.specs.Answer.{ends, answer, releases};
 ghost use Rattle.ctwasm_top.specs.Headline.{Did, DidTold, OtherVault, SameOutcome};
-ghost use Rattle.ctwasm_top.specs.TypedCalls.{CallsTyped};
+ghost use Rattle.ctwasm_top.specs.ValidCalls.{CallsValid, HoldsValid, check_words, canon_words, GivesSpelling};
 
+use commands::{canon_file, check_file};
 use ctw_io::{Shelf, Sink};
-use once::once;
-use outside::{refuse, say};
+use once::run_once;
+use outside::say;
 use std::alloc::Global;
-use words::{ArgumentsFault, once_words, read_arguments};
+use words::{Command, command_of};
 
 /// How a command ended; its number is the program's exit status.
 #[derive(Clone, Copy, Debug, PartialEq, Eq)]
@@ -70,29 +77,25 @@ fn dispatch<F: Shelf, K: Sink>(
 ) -> Status
     ensures did { (files : Files) → F.files shelf.old ≡ Some files
         → DidTold result (answer (map string_bytes words.now) files) files (F.files shelf.new) (K.taken out.old) (K.taken out.new) }
-    ensures usage { result ≡ Usage → once_words (map string_bytes words.now) ≡ None }
-    ensures no_form { (files : Files) → once_words (map string_bytes words.now) ≡ None → Did result (ends Usage usage_text) files files (K.taken out.old) (K.taken out.new) }
+    ensures usage { result ≡ Usage → command_of (map string_bytes words.now) ≡ None }
+    ensures no_form { (files : Files) → command_of (map string_bytes words.now) ≡ None → Did result (ends Usage usage_text) files files (K.taken out.old) (K.taken out.new) }
     ensures read { result ≡ ReadFault → Rose (F.faults shelf.old) (F.faults shelf.new) × (K.taken out.new ≡ K.taken out.old) }
     ensures write { result ≡ WriteFault → Rose (K.faults out.old) (K.faults out.new) }
     ensures save { result ≡ SaveFault → Rose (F.faults shelf.old) (F.faults shelf.new) }
 {
-    let Some(words) = once_words(words) else {
-        return say(out, USAGE, Status::Usage);
-    };
-    if let Some(word) = words.same_file() {
-        return refuse(alloc, out, "SameFile", word);
-    }
-    match read_arguments(alloc, words.arguments) {
-        Ok(arguments) => once(alloc, &words, &arguments, shelf, out),
-        Err(ArgumentsFault::NoArgument(word)) => refuse(alloc, out, "NotBuilt", word),
-        Err(ArgumentsFault::NoMemory) => Status::NoMemory,
+    match command_of(words) {
+        None => say(out, USAGE, Status::Usage),
+        Some(Command::Check(name)) => check_file(alloc, name, shelf, out),
+        Some(Command::Canon(name)) => canon_file(alloc, name, shelf, out),
+        Some(Command::Once(once)) => run_once(alloc, &once, shelf, out),
     }
 }
 
 /// Does what the words after the program's name say, over these files and this place for text.
 ///
-/// For now it has the command `once M VAULT SEALED EXPORT ARG..` over modules of the first form; all other words are a
-/// wrong use, whose text is written. Every text is written before a file is saved, and files are saved in the last place.
+/// For now it has the commands `check M`, `canon M`, and `once M VAULT SEALED EXPORT ARG..` over straight modules; all other
+/// words are a wrong use, whose text is written. Every text is written before a file is saved, and files are saved in the
+/// last place.
 pub fn ctwasm<F: Shelf, K: Sink>(
     alloc: Global,
     words: &[String],
@@ -103,8 +106,15 @@ pub fn ctwasm<F: Shelf, K: Sink>(
     ensures did { (files : Files) → F.files shelf.old ≡ Some files
         → DidTold result (answer (map string_bytes words.now) files) files (F.files shelf.new) (K.taken out.old) (K.taken out.new) }
 
-    // A call is made only of a module whose body is typed.
-    ensures typed { (files : Files) → F.files shelf.old ≡ Some files → result ≡ Done → CallsTyped (map string_bytes words.now) files }
+    // `check` ends well only for a file whose bytes spell a valid module, and refuses no such file.
+    ensures checked { (files : Files) (name : List ℕ) → F.files shelf.old ≡ Some files → map string_bytes words.now ≡ check_words name → result ≡ Done → HoldsValid files name }
+    ensures passed { (files : Files) (name : List ℕ) → F.files shelf.old ≡ Some files → map string_bytes words.now ≡ check_words name → HoldsValid files name → result ≡ Refused → ⊥ }
+
+    // `canon` writes bytes that spell the file's module.
+    ensures spelled { (files : Files) (name : List ℕ) → F.files shelf.old ≡ Some files → map string_bytes words.now ≡ canon_words name → result ≡ Done → GivesSpelling files name }
+
+    // A call is made only of a module that is valid.
+    ensures valid { (files : Files) (w : OnceWords) → F.files shelf.old ≡ Some files → command_of (map string_bytes words.now) ≡ Some (Once w) → result ≡ Done → CallsValid (map string_bytes words.now) files }
 
     // The two vaults: other bytes in VAULT, as many, by which the same is released, give the same bytes for out, the same
     // status and as many bytes to save.
@@ -113,8 +123,8 @@ pub fn ctwasm<F: Shelf, K: Sink>(
         → SameOutcome (answer (map string_bytes words.now) others) (answer (map string_bytes words.now) files) }
 
     // Told or not: wrong words are a wrong use, and nothing else is.
-    ensures usage { result ≡ Usage → once_words (map string_bytes words.now) ≡ None }
-    ensures no_form { (files : Files) → once_words (map string_bytes words.now) ≡ None → Did result (ends Usage usage_text) files files (K.taken out.old) (K.taken out.new) }
+    ensures usage { result ≡ Usage → command_of (map string_bytes words.now) ≡ None }
+    ensures no_form { (files : Files) → command_of (map string_bytes words.now) ≡ None → Did result (ends Usage usage_text) files files (K.taken out.old) (K.taken out.new) }
 
     // Told or not: each fault has its cause.
     ensures read { result ≡ ReadFault → Rose (F.faults shelf.old) (F.faults shelf.new) × (K.taken out.new ≡ K.taken out.old) }

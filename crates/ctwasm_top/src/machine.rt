@@ -1,13 +1,13 @@
 // The machine on straight code, over untagged words.
 ghost use Rattle.std.specs.Prelude.{◌≡◌, ◌<◌, length, map, Option, Some, is_some, true, OnOk, IfOk};
 ghost use Rattle.ctw_ops.specs.Types.{ValueType};
-ghost use Rattle.ctw_module.specs.Straight.{opcode_of, leaf_of};
+ghost use Rattle.ctwasm_top.specs.StraightInstrs.{opcode_of, leaf_of};
 ghost use Rattle.ctwasm_top.specs.Machine.{arithmetic};
 ghost use Rattle.ctwasm_top.specs.WordSteps.{CanStep, WordStep, IsBinary, costs, ended};
 ghost use Rattle.ctwasm_top.specs.Valid.{Stack};
 ghost use Rattle.ctwasm_top.specs.Checked.{callee, IsChecked, RunsTo};
 
-use ctw_module::{StraightInstr, StraightOp};
+use crate::straight::{StraightInstr, StraightOp};
 use ctw_ops::ValType;
 use std::alloc::{AllocError, Global};
 use std::marker::Model;

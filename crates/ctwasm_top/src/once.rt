@@ -1,27 +1,23 @@
 // The command `once`: one call of one module, over a vault.
-ghost use Rattle.std.specs.Prelude.{◌≡◌, ◌≤◌, ◌<◌, ◌^◌, Some, true, length, option_map, All, IfOk, IfSome, if◌then◌else◌};
-ghost use Rattle.ctw_module.specs.FirstForm.{IsNarrow};
-ghost use Rattle.ctw_module.specs.FirstReader.{first_form_of};
+ghost use Rattle.std.specs.Prelude.{◌≡◌, ◌≤◌, ◌<◌, ◌^◌, Some, true, length, All, if◌then◌else◌};
 ghost use Rattle.ctw_io.specs.Files.{Files};
 ghost use Rattle.ctw_io.specs.Faults.{Rose};
 ghost use Rattle.ctwasm_top.specs.declared.Status.TheVariants.{Usage, ReadFault, WriteFault, SaveFault};
 ghost use Rattle.ctwasm_top.specs.Session.{Began, Refused, VaultShort, fits, opened, plays};
 ghost use Rattle.ctwasm_top.specs.Lines.{reply_line};
-ghost use Rattle.ctwasm_top.specs.Checked.{callee_of};
-ghost use Rattle.ctwasm_top.specs.Answer.{delivered, callable, finished, once_moves, once_call};
+ghost use Rattle.ctwasm_top.specs.Checked.{callee_of, IsNarrow};
+ghost use Rattle.ctwasm_top.specs.Answer.{delivered, finished, once_moves, module_call, once_call, once_answer};
 ghost use Rattle.ctwasm_top.specs.Headline.{DidTold};
 
 use crate::Status;
-use crate::outside::{load_file, refuse, refuse_load};
+use crate::callable::callable;
+use crate::function::Function;
+use crate::modules::{read_valid, refuse_module};
+use crate::outside::{MODULE_LIMIT, load_file, refuse, refuse_load};
 use crate::session::{begin, turn};
-use crate::validator::{Function, check};
-use crate::words::{Argument, Once};
+use crate::words::{Argument, ArgumentsFault, Once, read_arguments};
 use ctw_io::{Fault, Shelf, Sink, send};
-use ctw_module::first_form;
-use std::alloc::{AllocError, Global};
-
-/// The greatest size of a module's file, in bytes.
-const MODULE_LIMIT: u64 = 67_108_864;
+use std::alloc::Global;
 
 /// The greatest size of a vault, in bytes.
 const VAULT_LIMIT: u64 = 16_777_216;
@@ -95,35 +91,39 @@ fn play<F: Shelf, K: Sink>(
     deliver(shelf, out, once.sealed, &ending.line, &ending.sealed)
 }
 
-/// The function that a module's bytes and the words call for; None where the bytes are of no first form, the body isn't typed,
-/// the export has another name or the arguments don't fit.
-fn callable(
+/// Makes the call that the words ask for, over the bytes of the module and of the vault.
+fn call<F: Shelf, K: Sink>(
     alloc: Global,
-    bytes: &[u8],
-    export: &str,
+    once: &Once,
     arguments: &[Argument],
-) -> Result<Option<Function>, AllocError>
+    bytes: &[u8],
+    vault: &[u8],
+    shelf: &mut F,
+    out: &mut K,
+) -> Status
     requires { length bytes.now < 2 ^ 32 }
-    ensures decides { IfOk result (λ function. option_map callee_of function ≡ callable export.now arguments.now (first_form_of bytes.now)) }
-    ensures ready { IfOk result (λ function. IfSome function (λ f. All IsNarrow f.params × (fits f.params arguments.now ≡ true))) }
+    ensures did { (files : Files) → F.files shelf.old ≡ Some files
+        → DidTold result (module_call once.now arguments.now bytes.now vault.now) files (F.files shelf.new) (K.taken out.old) (K.taken out.new) }
+    ensures write { result ≡ WriteFault → Rose (K.faults out.old) (K.faults out.new) }
+    ensures save { result ≡ SaveFault → Rose (F.faults shelf.old) (F.faults shelf.new) }
+    ensures known { (result ≡ ReadFault → ⊥) × (result ≡ Usage → ⊥) }
+    ensures kept { (K.faults out.old ≤ K.faults out.new) × (F.faults shelf.old ≤ F.faults shelf.new) }
 {
-    let Some(module) = first_form(bytes) else {
-        return Ok(None);
+    let module = match read_valid(alloc, bytes) {
+        Ok(module) => module,
+        Err(fault) => return refuse_module(alloc, out, fault, once.module_file),
     };
-    if module.export_named(export).is_none() {
-        return Ok(None);
-    }
-    let Some(function) = check(alloc, &module)? else {
-        return Ok(None);
+    let Ok(function) = callable(alloc, &module, once.export, arguments) else {
+        return Status::NoMemory;
     };
-    if function.takes(arguments) {
-        return Ok(Some(function));
+    match function {
+        Some(function) => play(alloc, &function, once, arguments, vault, shelf, out),
+        None => refuse(alloc, out, "NotBuilt", once.module_file),
     }
-    Ok(None)
 }
 
 /// Loads the module and the vault, and makes the call that the words ask for.
-pub fn once<F: Shelf, K: Sink>(
+fn once<F: Shelf, K: Sink>(
     alloc: Global,
     once: &Once,
     arguments: &[Argument],
@@ -144,11 +144,28 @@ pub fn once<F: Shelf, K: Sink>(
         Ok(vault) => vault,
         Err(fault) => return refuse_load(alloc, out, fault, once.vault),
     };
-    let Ok(function) = callable(alloc, &bytes, once.export, arguments) else {
-        return Status::NoMemory;
-    };
-    match function {
-        Some(function) => play(alloc, &function, once, arguments, &vault, shelf, out),
-        None => refuse(alloc, out, "NotBuilt", once.module_file),
+    call(alloc, once, arguments, &bytes, &vault, shelf, out)
+}
+
+/// Does what the words of `once` say.
+pub fn run_once<F: Shelf, K: Sink>(
+    alloc: Global,
+    words: &Once,
+    shelf: &mut F,
+    out: &mut K,
+) -> Status
+    ensures did { (files : Files) → F.files shelf.old ≡ Some files → DidTold result (once_answer files words.now) files (F.files shelf.new) (K.taken out.old) (K.taken out.new) }
+    ensures read { result ≡ ReadFault → Rose (F.faults shelf.old) (F.faults shelf.new) × (K.taken out.new ≡ K.taken out.old) }
+    ensures write { result ≡ WriteFault → Rose (K.faults out.old) (K.faults out.new) }
+    ensures save { result ≡ SaveFault → Rose (F.faults shelf.old) (F.faults shelf.new) }
+    ensures known { result ≡ Usage → ⊥ }
+{
+    if let Some(word) = words.same_file() {
+        return refuse(alloc, out, "SameFile", word);
+    }
+    match read_arguments(alloc, words.arguments) {
+        Ok(arguments) => once(alloc, words, &arguments, shelf, out),
+        Err(ArgumentsFault::NoArgument(word)) => refuse(alloc, out, "NotBuilt", word),
+        Err(ArgumentsFault::NoMemory) => Status::NoMemory,
     }
 }

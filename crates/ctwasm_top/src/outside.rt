@@ -14,6 +14,9 @@ use crate::lines::refusal_line;
 use ctw_io::{Fault, Loaded, Shelf, Sink, send};
 use std::alloc::Global;
 
+/// The greatest size of a module's file, in bytes.
+pub const MODULE_LIMIT: u64 = 67_108_864;
+
 /// Why a file's bytes aren't there.
 #[derive(Clone, Copy, Debug, PartialEq, Eq)]
 pub enum LoadFault {

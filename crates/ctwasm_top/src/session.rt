@@ -5,9 +5,9 @@ ghost use Rattle.ctwasm_top.specs.Ending.{IsEnding};
 ghost use Rattle.ctwasm_top.specs.Session.{sealed_by};
 ghost use Rattle.ctwasm_top.specs.Calls.{word_of, argument_word, words_of};
 
+use crate::function::Function;
 use crate::lines::done_line;
 use crate::machine::TypedNumber;
-use crate::validator::Function;
 use crate::words::Argument;
 use ctw_ops::{Label, Width};
 use std::alloc::{AllocError, Global};

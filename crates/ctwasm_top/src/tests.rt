@@ -22,6 +22,54 @@ const UNTYPED: [u8; 40] = [
     0x0A, 0x0A, 0x01, 0x08, 0x00, 0x20, 0x00, 0x20, 0x01, 0xE1, 0x6A, 0x0B, // code
 ];
 
+// A branch on a secret, in a block: `block local.get 0 br_if 0 end end` with a parameter of type s32.
+const BRANCH_ON_SECRET: [u8; 32] = [
+    0x00, 0x61, 0x73, 0x6D, 0x01, 0x00, 0x43, 0x54, // header
+    0x01, 0x05, 0x01, 0x60, 0x01, 0x7A, 0x00, // types
+    0x03, 0x02, 0x01, 0x00, // functions
+    0x0A, 0x0B, 0x01, 0x09, 0x00, 0x02, 0x40, 0x20, 0x00, 0x0D, 0x00, 0x0B, 0x0B, // code
+];
+
+// The same behind `unreachable`: `unreachable i32.const 0 i32.classify br_if 0 end`.
+const DEAD_BRANCH_ON_SECRET: [u8; 31] = [
+    0x00, 0x61, 0x73, 0x6D, 0x01, 0x00, 0x43, 0x54, // header
+    0x01, 0x05, 0x01, 0x60, 0x01, 0x7A, 0x00, // types
+    0x03, 0x02, 0x01, 0x00, // functions
+    0x0A, 0x0A, 0x01, 0x08, 0x00, 0x00, 0x41, 0x00, 0xE1, 0x0D, 0x00, 0x0B, // code
+];
+
+// `unreachable select drop end`, in a plain module.
+const DEAD_SELECT: [u8; 27] = [
+    0x00, 0x61, 0x73, 0x6D, 0x01, 0x00, 0x00, 0x00, // header
+    0x01, 0x04, 0x01, 0x60, 0x00, 0x00, // types
+    0x03, 0x02, 0x01, 0x00, // functions
+    0x0A, 0x07, 0x01, 0x05, 0x00, 0x00, 0x1B, 0x1A, 0x0B, // code
+];
+
+// A trusted function that declassifies a bit, and an untrusted one that calls it.
+const CALL_OF_TRUST: [u8; 47] = [
+    0x00, 0x61, 0x73, 0x6D, 0x01, 0x00, 0x43, 0x54, // header
+    0x01, 0x0B, 0x02, 0x61, 0x01, 0x7A, 0x01, 0x7F, 0x60, 0x01, 0x7A, 0x01, 0x7F, // types
+    0x03, 0x03, 0x02, 0x00, 0x01, // functions
+    0x0A, 0x13, 0x02, 0x0A, 0x00, 0x20, 0x00, 0xE0, 0x41, 0x01, 0xE0, 0x71, 0xE3, 0x0B, // code
+    0x06, 0x00, 0x20, 0x00, 0x10, 0x00, 0x0B,
+];
+
+// A plain module without anything, and the same with an empty type section whose count has five bytes.
+const HEADER: [u8; 8] = [0x00, 0x61, 0x73, 0x6D, 0x01, 0x00, 0x00, 0x00];
+
+const PADDED: [u8; 15] = [
+    0x00, 0x61, 0x73, 0x6D, 0x01, 0x00, 0x00, 0x00, 0x01, 0x05, 0x80, 0x80, 0x80, 0x80, 0x00,
+];
+
+const SIX_BYTES: [u8; 16] = [
+    0x00, 0x61, 0x73, 0x6D, 0x01, 0x00, 0x00, 0x00, 0x01, 0x06, 0x80, 0x80, 0x80, 0x80, 0x80, 0x00,
+];
+
+const TWO_MEMORIES: [u8; 15] = [
+    0x00, 0x61, 0x73, 0x6D, 0x01, 0x00, 0x00, 0x00, 0x05, 0x05, 0x02, 0x00, 0x01, 0x00, 0x01,
+];
+
 // () -> (i32), exported as "f": the number -2.
 const CONSTANT: [u8; 34] = [
     0x00, 0x61, 0x73, 0x6D, 0x01, 0x00, 0x43, 0x54, // header
@@ -207,7 +255,11 @@ fn each_refusal_has_its_line(rt: HostRuntime) -> Result<(), Fail> {
         ("once gone gone2 s f", "refused Missing gone\n"),
         ("once header gone s f", "refused Missing gone\n"),
         ("once header v s f", "refused NotBuilt header\n"),
-        ("once untyped v s f * 7", "refused NotBuilt untyped\n"),
+        (
+            "once untyped v s f * 7",
+            "refused check untyped Body 0 at 3 WrongType\n",
+        ),
+        ("once v m s f", "refused read v Truncated 4\n"),
         ("once m v s g * 7", "refused NotBuilt m\n"),
         ("once m v s f", "refused NotBuilt m\n"),
         ("once m v s f *", "refused NotBuilt m\n"),
@@ -217,6 +269,76 @@ fn each_refusal_has_its_line(rt: HostRuntime) -> Result<(), Fail> {
     for (words, line) in table {
         let end = run(&rt, rt.alloc(), words, &FIVE)?;
         has_left(&rt, &end, Status::Refused, line.as_bytes(), None);
+    }
+    Ok(())
+}
+
+/// A run whose file m is this one.
+fn run_over(rt: &impl Abort, alloc: Global, line: &str, module: &[u8]) -> Result<Left, AllocError> {
+    let mut shelf = SureShelf::new(alloc, Vec::new(alloc));
+    assert_eq!(rt; shelf.save("m", module), Ok(()));
+    let mut out = SureSink::new(alloc, 1000);
+    let status = ctwasm(alloc, &words_of(alloc, line)?, &mut shelf, &mut out);
+    Ok(Left {
+        status,
+        taken: out.taken().to_vec(alloc)?,
+        sealed: None,
+    })
+}
+
+#[test]
+fn a_module_is_checked(rt: HostRuntime) -> Result<(), Fail> {
+    let table: [(&[u8], Status, &[u8]); 8] = [
+        (&HEADER, Status::Done, b"ok\n"),
+        (&DEAD_SELECT, Status::Done, b"ok\n"),
+        (&ADDER, Status::Done, b"ok\n"),
+        (
+            HEADER.get(..7).unwrap_or(&[]),
+            Status::Refused,
+            b"refused read m Truncated 7\n",
+        ),
+        (
+            &BRANCH_ON_SECRET,
+            Status::Refused,
+            b"refused check m Body 0 at 2 SecretPlace Condition\n",
+        ),
+        (
+            &DEAD_BRANCH_ON_SECRET,
+            Status::Refused,
+            b"refused check m Body 0 at 3 SecretPlace Condition\n",
+        ),
+        (
+            &CALL_OF_TRUST,
+            Status::Refused,
+            b"refused check m Body 1 at 1 Trust\n",
+        ),
+        (
+            &TWO_MEMORIES,
+            Status::Refused,
+            b"refused read m TooMany 10 Memories 1\n",
+        ),
+    ];
+    for (module, status, line) in table {
+        let end = run_over(&rt, rt.alloc(), "check m", module)?;
+        has_left(&rt, &end, status, line, None);
+    }
+    let end = run_over(&rt, rt.alloc(), "check gone", &HEADER)?;
+    has_left(&rt, &end, Status::Refused, b"refused Missing gone\n", None);
+    Ok(())
+}
+
+#[test]
+fn a_module_is_spelled_canonically(rt: HostRuntime) -> Result<(), Fail> {
+    let table: [(&[u8], Status, &[u8]); 5] = [
+        (&HEADER, Status::Done, &HEADER),
+        (&PADDED, Status::Done, &HEADER),
+        (&BRANCH_ON_SECRET, Status::Done, &BRANCH_ON_SECRET),
+        (&UNTYPED, Status::Done, &UNTYPED),
+        (&SIX_BYTES, Status::Refused, b"refused read m BadLeb 10\n"),
+    ];
+    for (module, status, text) in table {
+        let end = run_over(&rt, rt.alloc(), "canon m", module)?;
+        has_left(&rt, &end, status, text, None);
     }
     Ok(())
 }
@@ -249,6 +371,8 @@ fn words_of_no_command_are_a_wrong_use(rt: HostRuntime) -> Result<(), Fail> {
         "Once m v s f * 7",
         "once m v s f * ",
         "run m v s f * 7",
+        "check",
+        "canon m m",
     ];
     for line in table {
         let end = run(&rt, rt.alloc(), line, &FIVE)?;

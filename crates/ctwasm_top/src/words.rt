@@ -2,8 +2,9 @@
 ghost use Rattle.std.specs.Prelude.{◌≡◌, map, option_map, true, length, ◌<◌, string_bytes};
 ghost use Rattle.std.specs.List.{list_all};
 ghost use Rattle.std.specs.Char.{is_ascii_digit};
-ghost use Rattle.ctwasm_top.specs.Words.{once_words, has_empty, same_file, small_number, argument_of, arguments_of};
+ghost use Rattle.ctwasm_top.specs.Words.{once_words, file_command, command_of, has_empty, same_file, small_number, argument_of, arguments_of};
 ghost use Rattle.ctwasm_top.specs.Arguments.{AreArguments};
+ghost use Rattle.ctwasm_top.specs.Commands.{command_in};
 
 use std::alloc::{AllocFailed, Global};
 use std::marker::Model;
@@ -49,7 +50,7 @@ fn has_empty(words: &[String]) -> bool
 }
 
 /// The words of `once`; None where they have another form.
-pub fn once_words(words: &[String]) -> Option<Once<'_>>
+fn once_words(words: &[String]) -> Option<Once<'_>>
     ensures { result ≡ once_words (map string_bytes words.now) }
 {
     let [command, module_file, vault, sealed, export, arguments @ ..] = words else {
@@ -65,6 +66,41 @@ pub fn once_words(words: &[String]) -> Option<Once<'_>>
         export: export.as_str(),
         arguments,
     })
+}
+
+/// A command with its words.
+#[derive(Drop)]
+pub enum Command<'a> {
+    /// `check M`.
+    Check(&'a str),
+    /// `canon M`.
+    Canon(&'a str),
+    /// `once M VAULT SEALED EXPORT ARG..`.
+    Once(Once<'a>),
+}
+
+/// The command with one file; None where the word is none's.
+fn file_command<'a>(command: &str, file: &'a str) -> Option<Command<'a>>
+    ensures { option_map command_in result ≡ file_command command.now file.now }
+{
+    match command {
+        "check" => Some(Command::Check(file)),
+        "canon" => Some(Command::Canon(file)),
+        _ => None,
+    }
+}
+
+/// The command that the words have the form of; None where they have none.
+pub fn command_of(words: &[String]) -> Option<Command<'_>>
+    ensures { option_map command_in result ≡ command_of (map string_bytes words.now) }
+{
+    if let [command, file] = words {
+        return file_command(command.as_str(), file.as_str());
+    }
+    match once_words(words) {
+        Some(once) => Some(Command::Once(once)),
+        None => None,
+    }
 }
 
 impl<'a> Once<'a> {
@@ -103,7 +139,7 @@ fn number(digits: &str) -> Option<u32>
 
 /// The argument that a word stands for; None where it is neither `*` nor a number below 2^32 in one to ten digits.
 #[tactic(auto, unfolding(crate::specs::Words::argument_of))]
-pub fn read_argument(word: &str) -> Option<Argument>
+fn read_argument(word: &str) -> Option<Argument>
     ensures { result ≡ argument_of word.now }
 {
     if word == "*" {

@@ -1,40 +1,23 @@
-use Rattle.std.proofs.Common.{List, ℕ, map, string_bytes, sym, ap, ◌∙◌, subst, codes, Bor, Err}
-use Rattle.ctwasm_top.specs.declared.words.Argument.{Argument}
-use Rattle.ctwasm_top.specs.OnceWords.{OnceWords}
+use Rattle.std.proofs.Common.{map, string_bytes, sym, ap, ◌∙◌, Some}
+use Rattle.ctwasm_top.specs.declared.words.Command.{Command}
 use Rattle.ctwasm_top.specs.Usage.{usage_text}
-use Rattle.ctwasm_top.specs.Words.{arguments_of}
-use Rattle.ctwasm_top.specs.Arguments.{AreArguments}
-use Rattle.ctwasm_top.specs.Answer.{once_call, refuses}
-use Rattle.ctwasm_top.specs.Headline.{Did, DidTold}
-use Rattle.ctwasm_top.proofs.Dispatched.{no_words, same_words, bad_words, good_words}
-use Rattle.ctwasm_top.proofs.Played.{told_nothing}
+use Rattle.ctwasm_top.specs.Commands.{command_in}
+use Rattle.ctwasm_top.proofs.Dispatched.{on_command}
 use Rattle.ctwasm_top.proofs.dispatch.Goals as goal
 
-pub returns-in_default-clause-did : goal.returns-in_default-clause-did
+pub returns-in-None-clause-did : goal.returns-in-None-clause-did
 unfolding usage_text
-returns-in_default-clause-did g c = λ files told. no_words (map string_bytes c.args.words.now) files c.say.result _ _ _ told (sym c.once_words.ensures ∙ c.in_default.is) (c.say.ensures.did files)
+returns-in-None-clause-did g c = λ files told. on_command (map string_bytes c.args.words.now) files c.say.result _ _ _ _ (sym c.in-None.ensures) (record { files = files; told = told; did = c.say.ensures.did files })
 
-pub returns-in_default-clause-no_form : goal.returns-in_default-clause-no_form
+pub returns-in-None-clause-no_form : goal.returns-in-None-clause-no_form
 unfolding usage_text
-returns-in_default-clause-no_form g c = λ files e. c.say.ensures.did files
+returns-in-None-clause-no_form g c = λ files e. c.say.ensures.did files
 
-pub returns-in-Some-same_file-clause-did : goal.returns-in-Some-same_file-clause-did
-returns-in-Some-same_file-clause-did g c = λ files told.
-    same_words (map string_bytes c.args.words.now) files c.refuse.result _ _ _ (sym c.once_words.ensures ∙ c.in-Some.is) _ c.in-Some-same_file.word.now told (sym c.in-Some-same_file.ensures) (c.refuse.ensures.did files)
+pub returns-in-Some-Check-clause-did : goal.returns-in-Some-Check-clause-did
+returns-in-Some-Check-clause-did g c = λ files told. on_command (map string_bytes c.args.words.now) files c.check_file.result _ _ _ _ (sym c.in-Some-Check.ensures ∙ ap (λ (k : Command). Some (command_in k)) c.in-Some-Check.field-0-is) (c.check_file.ensures.did files told)
 
-pub returns-in-Ok-clause-did : goal.returns-in-Ok-clause-did
-returns-in-Ok-clause-did g c = λ files told.
-    good_words (map string_bytes c.args.words.now) files c.once.result _ _ c.in-Some.words (sym c.once_words.ensures ∙ c.in-Some.is) _ c.in-Ok.arguments.items (sym c.in_default-same_file.ensures)
-    (ap (λ (w : OnceWords). arguments_of w.arguments) (sym c.words.view_is) ∙ subst (λ r. AreArguments r (arguments_of (map string_bytes c.words.inside.arguments.now))) c.in-Ok.is c.read_arguments.ensures)
-    (subst (λ (arguments : List Argument). DidTold c.once.result (once_call files c.in-Some.words arguments) files (g.F.Shelf.files c.once.new.shelf) (g.K.Sink.taken c.args.out.now) (g.K.Sink.taken c.once.new.out)) c.deref.ensures.value
-    (c.once.ensures.did files told))
+pub returns-in-Some-Canon-clause-did : goal.returns-in-Some-Canon-clause-did
+returns-in-Some-Canon-clause-did g c = λ files told. on_command (map string_bytes c.args.words.now) files c.canon_file.result _ _ _ _ (sym c.in-Some-Canon.ensures ∙ ap (λ (k : Command). Some (command_in k)) c.in-Some-Canon.field-0-is) (c.canon_file.ensures.did files told)
 
-pub returns-in-Err-NoArgument-clause-did : goal.returns-in-Err-NoArgument-clause-did
-returns-in-Err-NoArgument-clause-did g c = λ files told.
-    bad_words (map string_bytes c.args.words.now) files c.refuse-in-Err-NoArgument.result _ _ c.in-Some.words (sym c.once_words.ensures ∙ c.in-Some.is) _ c.in-Err-NoArgument.word.now told (sym c.in_default-same_file.ensures)
-    (ap (λ (w : OnceWords). arguments_of w.arguments) (sym c.words.view_is) ∙ subst (λ r. AreArguments r (arguments_of (map string_bytes c.words.inside.arguments.now))) (c.in-Err-NoArgument.is ∙ ap Err c.in-Err-NoArgument.field-0-is) c.read_arguments.ensures)
-    (subst (λ (word : Bor (List ℕ)). Did c.refuse-in-Err-NoArgument.result (refuses (codes "NotBuilt") word.now) files files (g.K.Sink.taken c.args.out.now) (g.K.Sink.taken c.refuse-in-Err-NoArgument.new.out)) c.in-Err-NoArgument.word-is
-    (c.refuse-in-Err-NoArgument.ensures.did files))
-
-pub returns-in-Err-NoMemory-clause-did : goal.returns-in-Err-NoMemory-clause-did
-returns-in-Err-NoMemory-clause-did g c = λ files told. told_nothing _ files _ _ told
+pub returns-in-Some-Once-clause-did : goal.returns-in-Some-Once-clause-did
+returns-in-Some-Once-clause-did g c = λ files told. on_command (map string_bytes c.args.words.now) files c.run_once.result _ _ _ _ (sym c.in-Some-Once.ensures ∙ ap (λ (k : Command). Some (command_in k)) c.in-Some-Once.field-0-is) (c.run_once.ensures.did files told)

@@ -1,5 +1,5 @@
 use Rattle.std.proofs.Common.{◌<◌, ◌+◌, List, ℕ, get_or, arith, length, subst, ap, sym, ◌∙◌}
-use Rattle.ctw_module.specs.declared.straight.StraightInstr.TheVariants.{Drop}
+use Rattle.ctwasm_top.specs.declared.straight.StraightInstr.TheVariants.{Drop}
 use Rattle.ctwasm_top.specs.WordSteps.{WordStep, ended}
 use Rattle.ctwasm_top.proofs.Running.{InLoop, loop_start, loop_can, loop_next, loop_last, loop_end, written_back, costs_small, few_code}
 use Rattle.ctwasm_top.proofs.machine.run.Goals as goal

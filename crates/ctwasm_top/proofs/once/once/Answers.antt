@@ -1,10 +1,7 @@
 use Rattle.std.proofs.Common.{◌≤◌, length, ap, ◌∙◌, sym, subst, List, ℕ}
 use Rattle.std.specs.FinMap.{get}
 use Rattle.ctwasm_top.specs.OnceWords.{OnceWords}
-use Rattle.ctw_module.specs.FirstReader.{first_form_of}
-use Rattle.ctwasm_top.specs.Answer.{callable}
-use Rattle.ctwasm_top.proofs.Called.{module_limit_is, vault_limit_is, with_vault, with_module, module_refused, vault_refused, call_refused, call_made, vault_as}
-use Rattle.ctwasm_top.proofs.Played.{told_nothing}
+use Rattle.ctwasm_top.proofs.FileByFile.{module_limit_is, vault_limit_is, with_vault, with_module, module_refused, vault_refused, both_loaded, module_call_as}
 use Rattle.ctwasm_top.proofs.once.once.Goals as goal
 
 pub returns-in-Err-clause-did : goal.returns-in-Err-clause-did
@@ -23,23 +20,6 @@ returns-in-Err-load_file-clause-did g c = λ files told.
     (c.refuse_load-in-Err-load_file.ensures.did files 16777216 _ (with_vault files c.args.once.now c.args.arguments.now c.in-Ok.bytes.items)
     (c.in-Err-load_file.ensures.told files (c.load_file.ensures.unchanged ∙ told)))
 
-pub returns-in_default-clause-did : goal.returns-in_default-clause-did
-returns-in_default-clause-did g c = λ files told. told_nothing _ files _ _ (c.load_file-2.ensures.unchanged ∙ c.load_file.ensures.unchanged ∙ told)
-
-pub returns-in-Some-clause-did : goal.returns-in-Some-clause-did
-returns-in-Some-clause-did g c = λ files told.
-    let n = ap (λ (w : OnceWords). w.module_file) c.once.view_is in
-    let m = c.in-Ok.ensures.told files told in
-    let e = ap (λ (k : List ℕ). get files k) (sym n) ∙ m.0 in
-    let h = subst (λ (l : ℕ). length c.in-Ok.bytes.items ≤ l) module_limit_is m.1 in
-    let nv = ap (λ (w : OnceWords). w.vault) c.once.view_is in
-    let v = c.in-Ok-load_file.ensures.told files (c.load_file.ensures.unchanged ∙ told) in
-    let f = ap (λ (k : List ℕ). get files k) (sym nv) ∙ v.0 in
-    let k = subst (λ (l : ℕ). length c.in-Ok-load_file.vault.items ≤ l) vault_limit_is v.1 in
-    call_made files c.args.once.now c.args.arguments.now c.play.result _ _ _ c.in-Ok.bytes.items c.in-Ok-load_file.vault.items _ c.in-Ok-callable.function _ e h f k
-    (ap (λ (w : OnceWords). w.export) c.once.view_is) c.in-Some.is (c.in-Ok-callable.ensures.decides ∙ ap (λ (b : List ℕ). callable c.once.inside.export.now c.args.arguments.now (first_form_of b)) c.deref.ensures.value)
-    (vault_as files c.args.once.now c.args.arguments.now c.play.result _ _ _ c.in-Some.function _ _ c.deref-in-Some.ensures.value (c.play.ensures.did files (c.load_file-2.ensures.unchanged ∙ c.load_file.ensures.unchanged ∙ told)))
-
 pub returns-clause-did : goal.returns-clause-did
 returns-clause-did g c = λ files told.
     let n = ap (λ (w : OnceWords). w.module_file) c.once.view_is in
@@ -50,5 +30,5 @@ returns-clause-did g c = λ files told.
     let v = c.in-Ok-load_file.ensures.told files (c.load_file.ensures.unchanged ∙ told) in
     let f = ap (λ (k : List ℕ). get files k) (sym nv) ∙ v.0 in
     let k = subst (λ (l : ℕ). length c.in-Ok-load_file.vault.items ≤ l) vault_limit_is v.1 in
-    call_refused files c.args.once.now c.args.arguments.now c.refuse.result _ _ _ (c.load_file-2.ensures.unchanged ∙ c.load_file.ensures.unchanged ∙ told) c.in-Ok.bytes.items c.in-Ok-load_file.vault.items _ _ c.in-Ok-callable.function e h f k
-    (ap (λ (w : OnceWords). w.export) c.once.view_is) n c.in-None.is (c.in-Ok-callable.ensures.decides ∙ ap (λ (b : List ℕ). callable c.once.inside.export.now c.args.arguments.now (first_form_of b)) c.deref.ensures.value) (c.refuse.ensures.did files)
+    both_loaded files c.args.once.now c.args.arguments.now c.call.result _ _ _ c.in-Ok.bytes.items c.in-Ok-load_file.vault.items e h f k
+    (module_call_as c.args.once.now c.args.arguments.now c.call.result files _ _ _ _ _ _ _ c.deref.ensures.value c.deref-2.ensures.value (c.call.ensures.did files (c.load_file-2.ensures.unchanged ∙ c.load_file.ensures.unchanged ∙ told)))

@@ -1,7 +1,7 @@
 use Rattle.std.proofs.Common.{subst}
 use Rattle.ctwasm_top.specs.declared.outside.LoadFault.{LoadFault}
 use Rattle.ctwasm_top.specs.Loading.{IsUnloaded}
-use Rattle.ctwasm_top.proofs.Called.{missing_did, large_did}
+use Rattle.ctwasm_top.proofs.Refusals.{missing_did, large_did}
 use Rattle.ctwasm_top.proofs.outside.refuse_load.Goals as goal
 
 pub returns-in-Missing-clause-did : goal.returns-in-Missing-clause-did

@@ -1,0 +1,104 @@
+-- How many functions and globals there are, and the types of those that are defined.
+use Rattle.std.proofs.Common.{◌≡◌, ◌≤◌, ◌<◌, ℕ, zero, suc, ◌+◌, ◌-◌, List, [], ◌∷◌, length, map, slice_get, Option, Some, None, option_map, inl, inr, refl, sym, ap, ◌∙◌, arith}
+use Rattle.std.proofs.lemmas.Bool.{cases_lt}
+use Rattle.std.proofs.lemmas.List.{length-append, length-map}
+use Rattle.std.proofs.lemmas.Option.{slice_get-map}
+use Rattle.ctw_ops.specs.declared.types.Label.{Label}
+use Rattle.ctw_ops.specs.Types.{VariableType}
+use Rattle.ctw_ops.specs.Tree.{Module, Function, Global, Constant, Element, imported_functions, imported_globals, function_entries, global_types}
+use Rattle.ctw_module.specs.Lookup.{imported_count, global_inits}
+use Rattle.ctw_module.specs.Spelled.{Spells}
+use Rattle.ctw_module.specs.Trees.{Lent, tree, parts}
+use Rattle.ctw_module.proofs.Weights.{weight}
+use Rattle.ctw_module.proofs.Brought.{heft}
+use Rattle.ctw_module.proofs.Known.{known}
+use Rattle.ctw_module.proofs.Params.{slice_get_right}
+
+pub functions_count : (m : Module Label) → length (function_entries m) ≡ imported_count m + length m.functions
+functions_count m = omega (arith, length-append (imported_functions m.imports) (map (λ f. f.type) m.functions), length-map m.functions (λ f. f.type))
+
+pub globals_count : (m : Module Label) → length (global_types m) ≡ length (imported_globals m.imports) + length m.globals
+globals_count m = omega (arith, length-append (imported_globals m.imports) (map (λ g. g.type) m.globals), length-map m.globals (λ g. g.type))
+
+pub some_there : {A : Type 0} (l : List A) (i : ℕ) → i < length l → (a : A) × (slice_get l i ≡ Some a)
+some_there [] i lt = absurd (omega (arith, lt))
+some_there (a ∷ l) zero lt = (a, refl)
+some_there (a ∷ l) (suc i) lt = some_there l i (omega (arith, lt))
+
+same_some : {A : Type 0} (a b : A) → ◌≡◌ {A = Option A} (Some a) (Some b) → a ≡ b
+same_some a b e = cc
+
+-- a defined function has the type that its index has
+pub record FunctionAt (m : Module Label) (i type : ℕ) : Type 0 where
+  pub function : Function Label
+  pub is : slice_get m.functions i ≡ Some function
+  pub typed : function.type ≡ type
+
+pub function_at : (m : Module Label) (f i type : ℕ) → f ≡ imported_count m + i → f < length (function_entries m) → slice_get (function_entries m) f ≡ Some type → FunctionAt m i type
+function_at m f i type e lt is =
+    let there = some_there m.functions i (omega (arith, e, lt, functions_count m)) in
+    let types = map (λ (x : Function Label). x.type) m.functions in
+    let behind = slice_get_right (imported_functions m.imports) types f (omega (arith, e)) in
+    let at : f - length (imported_functions m.imports) ≡ i = omega (arith, e) in
+    let here : Some type ≡ Some there.0.type = sym is ∙ behind ∙ ap (λ (n : ℕ). slice_get types n) at ∙ slice_get-map (λ (x : Function Label). x.type) m.functions i ∙ ap (option_map (λ (x : Function Label). x.type)) there.1 in
+    record { function = there.0; is = there.1; typed = sym (same_some type there.0.type here) }
+
+-- a defined global has the type and the initial value that its index has
+pub record GlobalAt (m : Module Label) (i : ℕ) (type : VariableType Label) (init : Option (Constant Label)) : Type 0 where
+  pub global : Global Label
+  pub is : slice_get m.globals i ≡ Some global
+  pub typed : global.type ≡ type
+  pub init_is : init ≡ Some global.init
+
+pub global_at : (m : Module Label) (k i : ℕ) (type : VariableType Label) (init : Option (Constant Label)) → k ≡ length (imported_globals m.imports) → k + i < length (global_types m)
+    → slice_get (global_types m) (k + i) ≡ Some type → slice_get (global_inits m) (k + i) ≡ Some init → GlobalAt m i type init
+global_at m k i type init e lt is begins =
+    let there = some_there m.globals i (omega (arith, e, lt, globals_count m)) in
+    let types = map (λ (g : Global Label). g.type) m.globals in
+    let inits = map (λ (g : Global Label). Some g.init) m.globals in
+    let nones = map (λ (t : VariableType Label). no_value) (imported_globals m.imports) in
+    let at : (k + i) - length (imported_globals m.imports) ≡ i = omega (arith, e) in
+    let same : length nones ≡ length (imported_globals m.imports) = length-map (imported_globals m.imports) (λ t. no_value) in
+    let at_init : (k + i) - length nones ≡ i = omega (arith, e, same) in
+    let here : Some type ≡ Some there.0.type =
+    sym is ∙ slice_get_right (imported_globals m.imports) types (k + i) (omega (arith, e)) ∙ ap (λ (n : ℕ). slice_get types n) at ∙ slice_get-map (λ (g : Global Label). g.type) m.globals i ∙ ap (option_map (λ (g : Global Label). g.type)) there.1 in
+    let value : Some init ≡ Some (Some there.0.init) =
+    sym begins ∙ slice_get_right nones inits (k + i) (omega (arith, e, same)) ∙ ap (λ (n : ℕ). slice_get inits n) at_init ∙ slice_get-map (λ (g : Global Label). Some g.init) m.globals i ∙ ap (option_map (λ (g : Global Label). Some g.init)) there.1 in
+    record { global = there.0; is = there.1; typed = sym (same_some type there.0.type here); init_is = same_some init (Some there.0.init) value }
+  where
+    no_value : Option (Constant Label)
+    no_value = None
+
+-- ---- segments are no more than bytes
+
+heavy : (l : List (Element Label)) → length l ≤ weight heft l
+heavy [] = omega arith
+heavy (e ∷ l) = omega (arith, heavy l)
+
+pub few_elements : (lent : Lent) → Spells lent.bytes (tree lent) → length (tree lent).elements ≤ length lent.bytes
+unfolding tree parts
+few_elements lent s = let k = known lent (tree lent) s in omega (arith, k.size, heavy (parts lent).elements)
+
+pub few_segments : (lent : Lent) → Spells lent.bytes (tree lent) → length (tree lent).segments ≤ length lent.bytes
+unfolding tree parts
+few_segments lent s = let k = known lent (tree lent) s in omega (arith, k.size)
+
+-- ---- imported globals have no initial value
+
+init_past : (m : Module Label) (g : ℕ) → length (imported_globals m.imports) ≤ g → slice_get (global_inits m) g ≡ Some None → ⊥
+init_past m g le e =
+    let nones = map (λ (t : VariableType Label). no_value) (imported_globals m.imports) in
+    let same : length nones ≡ length (imported_globals m.imports) = length-map (imported_globals m.imports) (λ t. no_value) in
+    let inits = map (λ (x : Global Label). Some x.init) m.globals in
+    no m.globals (g - length nones) (sym (slice_get_right nones inits g (omega (arith, le, same))) ∙ e)
+  where
+    no_value : Option (Constant Label)
+    no_value = None
+
+    no : (l : List (Global Label)) (k : ℕ) → slice_get (map (λ (x : Global Label). Some x.init) l) k ≡ Some None → ⊥
+    no [] k q = cc
+    no (x ∷ l) zero q = cc
+    no (x ∷ l) (suc k) q = no l k q
+
+pub imported_init : (m : Module Label) (g : ℕ) → slice_get (global_inits m) g ≡ Some None → g < length (imported_globals m.imports)
+imported_init m g e = elim (cases_lt g (length (imported_globals m.imports))) [ inl lt ↦ lt | inr le ↦ absurd (init_past m g le e) ]

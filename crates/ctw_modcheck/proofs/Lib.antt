@@ -1,0 +1,13 @@
+pub mod Nones
+pub mod TypeChecks
+pub mod Validity
+pub mod Loops
+pub mod Counts
+pub mod Items
+pub mod Widths
+pub mod Variants
+pub mod Once
+pub mod ExportNames
+pub mod Order
+pub mod BodyChecks
+pub mod Verdict

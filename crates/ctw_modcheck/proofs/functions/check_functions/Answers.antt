@@ -1,0 +1,20 @@
+use Rattle.std.proofs.Common.{arith}
+use Rattle.std.proofs.lemmas.Result.{err_from_is_err_and}
+use Rattle.ctw_module.specs.Trees.{tree}
+use Rattle.ctw_modcheck.proofs.Counts.{functions_count}
+use Rattle.ctw_modcheck.proofs.Loops.{reached_none, reached_more, reached_fault, reached_all}
+use Rattle.ctw_modcheck.proofs.functions.check_functions.Goals as goal
+
+pub functions-init : goal.functions-init
+functions-init c = reached_none _ _ 0
+
+pub functions-preserved : goal.functions-preserved
+functions-preserved c = reached_more _ _ 0 _ c.in_ok-check_function.ensures c.functions.invariant
+
+pub returns-in_err-check_function : goal.returns-in_err-check_function
+returns-in_err-check_function c =
+    let p = err_from_is_err_and c.from_residual.result c.from_residual.ensures.1 in
+    rw (p.1, p.2) (reached_fault _ _ 0 _ _ c.in_err-check_function.ensures c.functions.invariant)
+
+pub returns : goal.returns
+returns c = reached_all _ _ 0 _ (omega (arith, functions_count (tree c.args.m.now))) c.functions.invariant

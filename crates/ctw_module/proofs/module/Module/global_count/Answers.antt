@@ -1,0 +1,7 @@
+use Rattle.std.proofs.Common.{length, ap, arith}
+use Rattle.ctw_module.proofs.Known.{view_few}
+use Rattle.std.proofs.lemmas.List.{length-map}
+use Rattle.ctw_module.proofs.module.Module.global_count.Goals as goal
+
+pub overflow_cast-result : goal.overflow_cast-result
+overflow_cast-result c = omega (arith, c.len.ensures, ap length c.self.invariant.globals, length-map c.self.inside.globals.items (λ g. g.ty), (view_few c.self.inside c.self.invariant).globals)

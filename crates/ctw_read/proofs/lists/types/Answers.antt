@@ -1,0 +1,6 @@
+use Rattle.ctw_leb.proofs.Loops.{left_step}
+use Rattle.ctw_module.specs.Read.{type_entry_at}
+use Rattle.ctw_read.proofs.lists.types.Goals as goal
+
+pub entries-preserved : goal.entries-preserved
+entries-preserved c = left_step (type_entry_at c.args.ct) c.in_ok-count.count c.number.new.cursor c.entries.counter c.entries.cursor c.type_entry.new.cursor _ c.entries-test.true c.entries.invariant c.in_ok-type_entry.ensures

@@ -1,0 +1,145 @@
+ghost use Rattle.std.specs.Prelude.{◌≡◌, ◌+◌, ◌≤◌, length, IfOk};
+ghost use Rattle.ctw_leb.specs.Calls.{Finds};
+ghost use Rattle.ctw_module.specs.Limits.{most_locals_of_all};
+ghost use Rattle.ctw_module.specs.Sections.{locals_of};
+ghost use Rattle.ctw_module.specs.Spelled.{all_after};
+ghost use Rattle.ctw_module.specs.Read.{label_place as place_of_label, label_at, form_step_at, form_body_at, groups_at, entry_insides_at, code_entry_at, codes_at};
+ghost use Rattle.ctw_read.specs.Calls.{in_sized, Reads, ReadsFront, Steps, Tells};
+
+use crate::fault::ReadFault;
+use ctw_flat::{BuildFault, Nesting};
+use ctw_leb::Cursor;
+use ctw_module::items::{group, inside, number, of_code, window};
+use ctw_module::{FormFault, FormKind};
+use std::alloc::Global;
+
+/// The place of the byte that stands for a label in the opcode at the cursor.
+fn label_place(cursor: &Cursor) -> Option<u32>
+    ensures { result ≡ place_of_label cursor.now.at cursor.now.rest }
+{
+    let place = cursor.place();
+    let _left = cursor.left();
+    match cursor.rest() {
+        [0xE0..=0xE4, ..] => Some(place),
+        [0x02..=0x04, 0x79..=0x7A, ..] => Some(place + 1),
+        _ => None,
+    }
+}
+
+/// The same in a plain module, where an opcode may stand at all.
+fn refused_label(ct: bool, nesting: &Nesting, cursor: &Cursor) -> Option<u32>
+    ensures { result ≡ label_at ct nesting.now cursor.now }
+{
+    if ct || nesting.is_closed() || nesting.is_too_deep(cursor) {
+        return None;
+    }
+    label_place(cursor)
+}
+
+/// The next instruction of a body.
+#[tactic(auto, unfolding(ctw_module::specs::Read::form_step_at))]
+fn step(ct: bool, nesting: &mut Nesting, cursor: &mut Cursor) -> Result<(), ReadFault>
+    ensures { Steps result nesting.old nesting.new cursor.new (form_step_at ct nesting.old cursor.old) }
+{
+    if let Some(place) = refused_label(ct, nesting, cursor) {
+        return Err(ReadFault::Bad {
+            kind: FormKind::LabelsInPlain,
+            place,
+        });
+    }
+    match nesting.step(cursor) {
+        Ok(_) => Ok(()),
+        Err(BuildFault::Bad(fault)) => Err(ReadFault::from(of_code(fault))),
+        Err(BuildFault::NoMemory) => Err(ReadFault::NoMemory),
+    }
+}
+
+/// The instructions of a code entry, all of the bytes.
+fn body(alloc: Global, ct: bool, cursor: &mut Cursor) -> Result<(), ReadFault>
+    ensures { Reads (λ u code. Unit {0}) result (form_body_at ct cursor.old) }
+{
+    let mut nesting = Nesting::new(alloc)?;
+    'body: while cursor.left() > 0 {
+        step(ct, &mut nesting, cursor)?;
+    }
+    if nesting.is_closed() {
+        return Ok(());
+    }
+    Err(ReadFault::Bad {
+        kind: FormKind::Unbalanced,
+        place: cursor.place(),
+    })
+}
+
+/// The locals of a function behind functions with so many, and how many they are with these.
+#[tactic(auto, unfolding(ctw_module::specs::Read::groups_at, ctw_module::specs::Limits::most_locals, ctw_module::specs::Limits::most_locals_of_all))]
+fn groups(ct: bool, all: u32, cursor: &mut Cursor) -> Result<u32, FormFault>
+    requires { all ≤ most_locals_of_all }
+    ensures locals { Tells (λ n groups. n ≡ all + length (locals_of groups)) result cursor.new (groups_at ct all cursor.old) }
+    ensures within { IfOk result (λ n. n ≤ most_locals_of_all) }
+{
+    let count = number(cursor)?;
+    let mut own = 0;
+    let mut all = all;
+    'groups: for _ in 0..count {
+        let group = group(ct, own, all, cursor)?;
+        own += group.count;
+        all += group.count;
+    }
+    Ok(all)
+}
+
+/// The locals and the instructions of a function, all of the bytes.
+#[tactic(auto, unfolding(ctw_module::specs::Read::entry_insides_at))]
+fn entry_insides(alloc: Global, ct: bool, all: u32, cursor: &mut Cursor) -> Result<u32, ReadFault>
+    requires { all ≤ most_locals_of_all }
+    ensures entry { Reads (λ n e. n ≡ all_after all e) result (entry_insides_at ct all cursor.old) }
+    ensures within { IfOk result (λ n. n ≤ most_locals_of_all) }
+{
+    let all = groups(ct, all, cursor)?;
+    body(alloc, ct, cursor)?;
+    Ok(all)
+}
+
+/// A code entry behind entries with so many locals, and how many these are with its own.
+fn entry(alloc: Global, ct: bool, all: u32, cursor: &mut Cursor) -> Result<u32, ReadFault>
+    requires { all ≤ most_locals_of_all }
+    ensures entry { ReadsFront (λ n e. n ≡ all_after all e) result cursor.new (code_entry_at ct all cursor.old) }
+    ensures within { IfOk result (λ n. n ≤ most_locals_of_all) }
+{
+    let mut window = window(cursor)?;
+    match entry_insides(alloc, ct, all, &mut window) {
+        Ok(all) => Ok(all),
+        Err(fault) => Err(inside_fault(fault)),
+    }
+}
+
+/// A fault in something of a known size, as a fault of the file.
+pub fn inside_fault(fault: ReadFault) -> ReadFault
+    ensures { result ≡ in_sized fault }
+{
+    match fault {
+        ReadFault::Bad { kind, place } => ReadFault::from(inside(FormFault { kind, place })),
+        ReadFault::NoMemory => ReadFault::NoMemory,
+    }
+}
+
+/// The entries of a code section, one for each function that has no code yet.
+#[tactic(auto, unfolding(ctw_module::specs::Read::codes_at), using(crate::proofs::CodeLoops::owed_short, crate::proofs::CodeLoops::owed_same, crate::proofs::CodeLoops::owed_other))]
+pub fn codes(alloc: Global, ct: bool, owed: u32, cursor: &mut Cursor) -> Result<(), ReadFault>
+    ensures { ReadsFront (λ u entries. Unit {0}) result cursor.new (codes_at ct owed cursor.old) }
+{
+    let place = cursor.place();
+    let count = number(cursor)?;
+    if count != owed {
+        return Err(ReadFault::Bad {
+            kind: FormKind::CountMismatch,
+            place,
+        });
+    }
+    let mut all = 0;
+    'entries: for _ in 0..count {
+        all = entry(alloc, ct, all, cursor)?;
+    }
+    Ok(())
+}

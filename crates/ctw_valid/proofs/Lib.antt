@@ -1,0 +1,13 @@
+pub mod OnStack
+pub mod Named
+pub mod Scope
+pub mod RowLaws
+pub mod Targets
+pub mod LeafLaws
+pub mod LevelLaws
+pub mod Prefixes
+pub mod FaultLaws
+pub mod LoopLaws
+pub mod Checked
+mod Examples
+mod Sample

@@ -1,0 +1,9 @@
+pub mod Faults
+pub mod Rows
+pub mod OnStack
+pub mod Named
+pub mod Scope
+pub mod Tables
+pub mod Blocks
+pub mod Levels
+pub mod Answers

@@ -1,0 +1,17 @@
+pub mod Settling
+pub mod BytesOf
+pub mod ItemTexts
+pub mod OpTexts
+pub mod GroupTexts
+pub mod Pieces
+pub mod SectionTexts
+pub mod CanonicalText
+pub mod Walked
+pub mod Fitted
+pub mod Counting
+pub mod Listed
+pub mod Shorter
+pub mod Shown
+pub mod Running
+pub mod ReadyViews
+pub mod SampleFiles

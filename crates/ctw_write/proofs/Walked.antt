@@ -1,0 +1,187 @@
+-- What is read for writing it again: numbers and opcodes one after another.
+use Rattle.std.proofs.Common.{◌≡◌, ℕ, suc, ◌+◌, ◌-◌, ◌*◌, ◌<◌, ◌≤◌, List, [], ◌∷◌, ◌++◌, length, take, drop, Result, Ok, Err, refl, sym, ap, subst, ◌∙◌, append_assoc, append-nil, arith, length-append}
+use Rattle.std.proofs.lemmas.List.{take_all, drop_at, drop_all, drop-drop, length-drop}
+use Rattle.std.proofs.Math.Seq.{take-append-add}
+use Rattle.std.specs.Prelude.{OnOk, is_ok, cond}
+use Rattle.ctw_ops.specs.declared.types.Label.{Label}
+use Rattle.ctw_ops.specs.Code.{Op, Plain, BrTable, Code, opcodes}
+use Rattle.ctw_leb.specs.declared.fault.LebFault.{LebFault}
+use Rattle.ctw_leb.specs.Input.{Input}
+use Rattle.ctw_leb.specs.Grammar.{Times}
+use Rattle.ctw_leb.specs.Numbers.{IsUnsigned, IsU32}
+use Rattle.ctw_leb.specs.Spelling.{u32_text}
+use Rattle.ctw_leb.specs.Calls.{ReadsNumber}
+use Rattle.ctw_leb.proofs.Exact.{one_spelling}
+use Rattle.ctw_flat.specs.Spelled.{IsOp, IsOps, IsBody}
+use Rattle.ctw_flat.specs.Read.{op_at}
+use Rattle.ctw_flat.proofs.Ops.{exact_op}
+use Rattle.ctw_flat.proofs.Places.{one_body}
+use Rattle.ctw_write.proofs.Pieces.{nil_cons}
+use Rattle.ctw_write.specs.Canon.{all_texts, op_text, body_text}
+
+-- ---- numbers
+
+unsigned_short : (bits : ℕ) (text : List ℕ) (n : ℕ) → 0 < bits → IsUnsigned bits text n → 7 * length text ≤ bits + 6
+unsigned_short bits [] n some h = absurd h
+unsigned_short bits (b ∷ []) n some h = omega arith
+unsigned_short bits (b ∷ c ∷ bs) n some h =
+    let seven : 7 < bits = h.2 in
+    omega (arith, unsigned_short (bits - 7) (c ∷ bs) h.3 (omega arith) h.4)
+
+u32_five : (text : List ℕ) (n : ℕ) → IsU32 text n → length text ≤ 5
+u32_five text n h = omega (arith, unsigned_short 32 text n (omega arith) h)
+
+front_is : (bytes text after : List ℕ) (n : ℕ) → IsU32 text n → bytes ≡ text ++ after → take 5 bytes ≡ text ++ take (5 - length text) after
+front_is bytes text after n m e =
+    let sum : length text + (5 - length text) ≡ 5 = omega (arith, u32_five text n m) in
+    ap (take 5) e ∙ ap (λ (k : ℕ). take k (text ++ after)) (sym sum) ∙ take-append-add text after (5 - length text)
+
+-- the number at the front of bytes that were cut behind the fifth
+pub first_read : (result : Result ℕ LebFault) (old new : Input) (bytes text after : List ℕ) (n : ℕ) → ReadsNumber IsU32 result old new → old.at ≡ 0 → old.rest ≡ take 5 bytes → IsU32 text n → bytes ≡ text ++ after
+    → (result ≡ Ok n) × (new.at ≡ length text)
+first_read result old new bytes text after n r at rest m e =
+    let f = r.found text (take (5 - length text) after) n m (rest ∙ front_is bytes text after n m e) in
+    (f.0, ap (λ (i : Input). i.at) f.1 ∙ ap (λ (k : ℕ). k + length text) at ∙ omega arith)
+
+-- what stands behind a text
+pub behind_is : (bytes text after : List ℕ) (place : ℕ) → bytes ≡ text ++ after → place ≡ length text → take (length bytes - place) (drop place bytes) ≡ after
+behind_is bytes text after place e p =
+    let tail : drop place bytes ≡ after = ap (drop place) e ∙ drop_at text after place (sym p) in
+    ap (take (length bytes - place)) tail ∙ take_all (length bytes - place) after (omega (arith, ap length e, length-append text after))
+
+-- so many numbers are left, and what is written, with their texts, is the whole
+pub record NumbersAhead (left : ℕ) (rest written whole : List ℕ) : Type 0 where
+  pub numbers : List ℕ
+  pub spelled : Times IsU32 left rest numbers
+  pub together : written ++ all_texts u32_text numbers ≡ whole
+
+pub numbers_begin : (count : ℕ) (bytes start numbers : List ℕ) → Times IsU32 count bytes numbers → NumbersAhead (count - 0) bytes start (start ++ all_texts u32_text numbers)
+numbers_begin count bytes start numbers m =
+    let same : count ≡ count - 0 = omega arith in
+    record { numbers = numbers; spelled = subst (λ (k : ℕ). Times IsU32 k bytes numbers) same m; together = refl }
+
+-- one more of them
+pub record NumberAhead (left : ℕ) (rest written whole : List ℕ) : Type 0 where
+  pub number : ℕ
+  pub text : List ℕ
+  pub after : List ℕ
+  pub spelled : IsU32 text number
+  pub front : rest ≡ text ++ after
+  pub next : (then : List ℕ) → then ≡ written ++ u32_text number → NumbersAhead left after then whole
+
+number_ahead_suc : (left : ℕ) (rest written whole : List ℕ) → NumbersAhead (suc left) rest written whole → NumberAhead left rest written whole
+number_ahead_suc left rest written whole h =
+    let m = h.spelled in
+    let others = m.4 in
+    let tail : others.1 ≡ m.2 = sym (others.5 ∙ ap (λ (l : List ℕ). others.1 ++ l) others.4.0 ∙ append-nil others.1) in
+    let list : h.numbers ≡ m.0 ∷ others.0 = sym others.4.1 in
+    record {
+      number = m.0;
+      text = m.1;
+      after = m.2;
+      spelled = m.3;
+      front = m.5;
+      next = λ then e. record {
+        numbers = others.0;
+        spelled = subst (λ (l : List ℕ). Times IsU32 left l others.0) tail others.3;
+        together = ap (λ (l : List ℕ). l ++ all_texts u32_text others.0) e ∙ append_assoc written (u32_text m.0) (all_texts u32_text others.0) ∙ ap (λ (l : List ℕ). written ++ all_texts u32_text l) (sym list) ∙ h.together;
+      };
+    }
+
+pub number_ahead : (count counter : ℕ) (rest written whole : List ℕ) → counter < count → NumbersAhead (count - counter) rest written whole → NumberAhead (count - (counter + 1)) rest written whole
+number_ahead count counter rest written whole lt h =
+    let same : count - counter ≡ suc (count - (counter + 1)) = omega arith in
+    number_ahead_suc (count - (counter + 1)) rest written whole (subst (λ (k : ℕ). NumbersAhead k rest written whole) same h)
+
+pub numbers_end : (count counter : ℕ) (rest written whole : List ℕ) → count ≤ counter → NumbersAhead (count - counter) rest written whole → written ≡ whole
+numbers_end count counter rest written whole le h =
+    let none : count - counter ≡ 0 = omega arith in
+    let m = subst (λ (k : ℕ). Times IsU32 k rest h.numbers) none h.spelled in
+    sym (append-nil written) ∙ ap (λ (l : List ℕ). written ++ all_texts u32_text l) m.1 ∙ h.together
+
+-- ---- opcodes
+
+-- the opcodes that are left, and what is written, with their texts, is the whole
+pub record OpsAhead (bytes : List ℕ) (at : ℕ) (written start : List ℕ) : Type 0 where
+  pub code : Code Label
+  pub body : IsBody bytes code
+  pub ops : List (Op Label)
+  pub spelled : IsOps (drop at bytes) ops
+  pub together : written ++ all_texts op_text ops ≡ start ++ body_text code
+  pub within : at ≤ length bytes
+
+pub ops_begin : (bytes start : List ℕ) (code : Code Label) → IsBody bytes code → OpsAhead bytes 0 start start
+ops_begin bytes start code m = record { code = code; body = m; ops = opcodes code; spelled = m; together = refl; within = omega arith }
+
+-- one more of them
+pub record OpAhead (bytes : List ℕ) (at : ℕ) (written start : List ℕ) : Type 0 where
+  pub op : Op Label
+  pub text : List ℕ
+  pub after : List ℕ
+  pub spelled : IsOp text op
+  pub front : drop at bytes ≡ text ++ after
+  pub next : (then : List ℕ) → then ≡ written ++ op_text op → OpsAhead bytes (at + length text) then start
+
+pub op_ahead : (bytes : List ℕ) (at : ℕ) (written start : List ℕ) → at < length bytes → OpsAhead bytes at written start → OpAhead bytes at written start
+op_ahead bytes at written start lt h = go h.ops h.spelled h.together
+  where
+    go : (ops : List (Op Label)) → IsOps (drop at bytes) ops → written ++ all_texts op_text ops ≡ start ++ body_text h.code → OpAhead bytes at written start
+    go [] m e = absurd (omega (arith, ap length m, length-drop at bytes))
+    go (op ∷ ops) m e =
+        let rest : drop (at + length m.0) bytes ≡ m.1 = sym (drop-drop (length m.0) at bytes) ∙ ap (drop (length m.0)) m.4 ∙ drop_at m.0 m.1 (length m.0) refl in
+        let sum : length bytes - at ≡ length m.0 + length m.1 = sym (length-drop at bytes) ∙ ap length m.4 ∙ length-append m.0 m.1 in
+        record {
+          op = op;
+          text = m.0;
+          after = m.1;
+          spelled = m.2;
+          front = m.4;
+          next = λ then q. record {
+            code = h.code;
+            body = h.body;
+            ops = ops;
+            spelled = subst (λ (l : List ℕ). IsOps l ops) (sym rest) m.3;
+            together = ap (λ (l : List ℕ). l ++ all_texts op_text ops) q ∙ append_assoc written (op_text op) (all_texts op_text ops) ∙ e;
+            within = omega arith;
+          };
+        }
+
+-- what was read there is that opcode
+pub op_read : (bytes : List ℕ) (at : ℕ) (written start : List ℕ) (h : OpAhead bytes at written start) (text after : List ℕ) (op : Op Label) → IsOp text op → drop at bytes ≡ text ++ after → (text ≡ h.text) × (op ≡ h.op)
+op_read bytes at written start h text after op m e = one_spelling IsOp op_at exact_op text h.text after h.after op h.op m h.spelled (sym e ∙ h.front)
+
+pub ops_next : (bytes : List ℕ) (at next : ℕ) (written start then text after : List ℕ) (op : Op Label) → (h : OpAhead bytes at written start) → IsOp text op → drop at bytes ≡ text ++ after → next ≡ at + length text → then ≡ written ++ op_text op → OpsAhead bytes next then start
+ops_next bytes at next written start then text after op h m e n w =
+    let r = op_read bytes at written start h text after op m e in
+    let place : at + length h.text ≡ next = ap (λ (l : List ℕ). at + length l) (sym r.0) ∙ sym n in
+    subst (λ (k : ℕ). OpsAhead bytes k then start) place (h.next then (w ∙ ap (λ (o : Op Label). written ++ op_text o) r.1))
+
+op_filled : (x y : List ℕ) (op : Op Label) → IsOp x op → [] ≡ x ++ y → ⊥
+op_filled x y op m e =
+    let first : [] ≡ m.3.0 ∷ (m.2 ++ y) = e ∙ ap (λ (l : List ℕ). l ++ y) m.5 ∙ ap (λ (l : List ℕ). (l ++ m.2) ++ y) m.3.1 in
+    nil_cons m.3.0 (m.2 ++ y) (sym first)
+
+pub ops_end : (bytes : List ℕ) (at : ℕ) (written start : List ℕ) → length bytes ≤ at → OpsAhead bytes at written start → (code : Code Label) → IsBody bytes code → written ≡ start ++ body_text code
+ops_end bytes at written start le h code m = go h.ops h.spelled h.together
+  where
+    go : (ops : List (Op Label)) → IsOps (drop at bytes) ops → written ++ all_texts op_text ops ≡ start ++ body_text h.code → written ≡ start ++ body_text code
+    go [] q e = sym (append-nil written) ∙ e ∙ ap (λ (c : Code Label). start ++ body_text c) (one_body bytes h.code code h.body m)
+    go (op ∷ ops) q e = absurd (op_filled q.0 q.1 op q.2 (sym (drop_all at bytes le) ∙ q.4))
+
+-- what is written after an answer Ok
+pub on_ok : {A E P Q : Type 0} (r : Result A E) → (P → Q) → OnOk r P → OnOk r Q
+on_ok (Ok x) f p = f p
+on_ok (Err e) f p = tt
+
+-- a branch table, piece by piece
+pub table_joined : (start one two three four : List ℕ) (count otherwise : ℕ) (targets : List ℕ) → length targets ≡ count → one ≡ start ++ 0x0E ∷ [] → two ≡ one ++ u32_text count → three ≡ two ++ all_texts u32_text targets → four ≡ three ++ u32_text otherwise
+    → four ≡ start ++ op_text (Plain (BrTable targets otherwise))
+table_joined start one two three four count otherwise targets n a b d e =
+    e ∙ ap (λ (l : List ℕ). l ++ u32_text otherwise) (d ∙ ap (λ (l : List ℕ). l ++ all_texts u32_text targets) (b ∙ ap (λ (l : List ℕ). l ++ u32_text count) a))
+    ∙ ap (λ (k : ℕ). (((start ++ 0x0E ∷ []) ++ u32_text k) ++ all_texts u32_text targets) ++ u32_text otherwise) (sym n)
+    ∙ simp append_assoc
+
+-- what is appended after an answer Ok
+pub extended : {A E : Type 0} (r : Result A E) (new old other whole : List ℕ) → new ≡ cond (is_ok r) (old ++ other) old → old ++ other ≡ whole → OnOk r (new ≡ whole)
+extended (Ok x) new old other whole e f = e ∙ f
+extended (Err x) new old other whole e f = tt

@@ -1,0 +1,15 @@
+use Rattle.std.proofs.Common.{◌≡◌, length, sym, ap, ◌∙◌, arith}
+use Rattle.ctw_ops.specs.Types.{FunctionType, byte_types}
+use Rattle.ctw_ops.specs.declared.types.Label.{Label}
+use Rattle.ctw_module.proofs.Params.{types_length}
+use Rattle.ctw_write.proofs.entry.params_of.Goals as goal
+
+pub overflow_cast-result : goal.overflow_cast-result
+overflow_cast-result c =
+    let seen : byte_types c.ty.inside.params.now ≡ c.args.ty.now.params = ap (λ (t : FunctionType Label). t.params) c.ty.view_is in
+    record { fits = omega (arith, types_length c.ty.inside.params.now c.ty.invariant, ap length seen, c.requires) }
+
+pub returns : goal.returns
+returns c =
+    let seen : byte_types c.ty.inside.params.now ≡ c.args.ty.now.params = ap (λ (t : FunctionType Label). t.params) c.ty.view_is in
+    sym (types_length c.ty.inside.params.now c.ty.invariant) ∙ ap length seen

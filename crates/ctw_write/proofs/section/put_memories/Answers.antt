@@ -1,0 +1,16 @@
+use Rattle.std.proofs.Common.{◌≡◌, ◌++◌, Some, ℕ, List, ap, sym, ◌∙◌, append_assoc}
+use Rattle.ctw_leb.specs.Spelling.{u32_text}
+use Rattle.ctw_module.specs.Trees.{tree}
+use Rattle.ctw_write.specs.Canon.{memory_text}
+use Rattle.ctw_write.proofs.Shorter.{section_short, one_thing_short, contents_short}
+use Rattle.ctw_write.proofs.section.put_memories.Goals as goal
+
+pub put_section-requires : goal.put_section-requires
+put_section-requires c =
+    let m = tree c.args.m.now in
+    let there : m.memory ≡ Some c.in-Some.ty = sym c.defined_memory.ensures ∙ c.in-Some.is in
+    let start = c.new-contents.result.items in
+    let whole : c.put_memory.new.out.items ≡ start ++ (u32_text 1 ++ memory_text c.in-Some.ty) =
+    c.in_ok-put_memory-in-Some.ensures ∙ ap (λ (l : List ℕ). l ++ memory_text c.in-Some.ty) c.in_ok-put_u32-in-Some.ensures.put ∙ append_assoc start (u32_text 1) (memory_text c.in-Some.ty) in
+    contents_short c.deref.result.now c.put_memory.new.out.items start (u32_text 1 ++ memory_text c.in-Some.ty) c.deref.ensures.value whole c.new-contents.ensures.items
+    (one_thing_short 5 memory_text m.memory c.in-Some.ty there (section_short m 5 c.requires.short))

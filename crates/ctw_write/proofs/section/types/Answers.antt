@@ -1,0 +1,24 @@
+use Rattle.std.proofs.Common.{◌≡◌, Some}
+use Rattle.std.specs.Prelude.{slice_get}
+use Rattle.ctw_ops.specs.Tree.{TypeEntry}
+use Rattle.ctw_ops.specs.declared.types.Label.{Label}
+use Rattle.ctw_module.specs.Trees.{tree}
+use Rattle.ctw_write.specs.Canon.{type_entry_text}
+use Rattle.ctw_write.proofs.Listed.{listed_next}
+use Rattle.ctw_write.proofs.Shorter.{item_short}
+use Rattle.ctw_write.proofs.Shown.{entry_is, entry_short}
+use Rattle.ctw_write.proofs.section.types.Goals as goal
+
+pub put_type_entry-requires : goal.put_type_entry-requires
+put_type_entry-requires c =
+    let m = tree c.args.m.now in
+    let entry : TypeEntry Label = record { base = c.variant_of-base.result; type = c.func_type-ty.result } in
+    let there : slice_get m.types c.loop-i.i ≡ Some entry = entry_is m c.loop-i.i c.variant_of-base.result c.func_type-ty.result c.variant_of-base.ensures c.func_type-ty.ensures in
+    entry_short entry (item_short 1 type_entry_text m.types c.loop-i.i entry c.requires there)
+
+pub loop-i-preserved : goal.loop-i-preserved
+loop-i-preserved c =
+    let m = tree c.args.m.now in
+    let entry : TypeEntry Label = record { base = c.variant_of-base.result; type = c.func_type-ty.result } in
+    let there : slice_get m.types c.loop-i.i ≡ Some entry = entry_is m c.loop-i.i c.variant_of-base.result c.func_type-ty.result c.variant_of-base.ensures c.func_type-ty.ensures in
+    listed_next type_entry_text m.types c.loop-i.i entry c.put_u32.new.out.items c.loop-i.out.items c.put_type_entry.new.out.items there c.in_ok-put_type_entry.ensures c.loop-i.invariant
