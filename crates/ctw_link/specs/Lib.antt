@@ -1,0 +1,11 @@
+pub mod Sets
+pub mod Externals
+pub mod Numbers
+pub mod Users
+pub mod Matching
+pub mod Faults
+pub mod Told
+pub mod Linked
+pub mod Marks
+pub mod Firsts
+pub mod Resolving
