@@ -15,12 +15,14 @@ use ctw_ops::{Label, SecretRule, ValType, Width};
 use ctw_stack::{Slot, Stack, Underflow};
 use std::alloc::AllocError;
 
+/// Whether two widths are equal.
 pub fn is_same_width(a: Width, b: Width) -> bool
     ensures { result ≡ same_width a b }
 {
     a == b
 }
 
+/// Whether two labels are equal.
 pub fn is_same_label(a: Label, b: Label) -> bool
     ensures { result ≡ same_label a b }
 {
