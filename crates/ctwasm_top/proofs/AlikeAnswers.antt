@@ -14,7 +14,7 @@ use Rattle.ctwasm_top.specs.declared.Status.TheVariants as Statuses
 use Rattle.ctwasm_top.specs.declared.words.Argument.{Argument}
 use Rattle.ctwasm_top.specs.Session.{Callee, Move, State, opened, Run, plays}
 use Rattle.ctwasm_top.specs.Lines.{reply_lines}
-use Rattle.ctwasm_top.specs.Words.{OnceWords, Command, Check, Canon, Once, command_of, vault_in, vault_word, same_file, Arguments, Read, NoArgument, arguments_of}
+use Rattle.ctwasm_top.specs.Words.{OnceWords, Command, Check, Canon, Link, Once, command_of, vault_in, vault_word, same_file, Arguments, Read, NoArgument, arguments_of}
 use Rattle.ctwasm_top.specs.Answer.{Outcome, ends, on_file, module_limit, vault_limit, on_form, on_fault, callable, built, once_moves, finished, with_arguments, unless_same, once_call, once_answer, on_words, answer, releases}
 use Rattle.ctwasm_top.specs.Headline.{OtherVault, saved_size, SameOutcome}
 use Rattle.ctwasm_top.proofs.Seen.{Agree}
@@ -120,6 +120,7 @@ words_same : (o : Option Command) (vault : List ℕ) (f g : Files) → vault_in 
 words_same None vault f g e d = cc
 words_same (Some (Check file)) vault f g e d = cc
 words_same (Some (Canon file)) vault f g e d = cc
+words_same (Some (Link parts)) vault f g e d = cc
 words_same (Some (Once w)) vault f g e d = let q : vault ≡ w.vault = cc in once_same w f g (subst (λ v. OtherVault v f g) q d)
 
 -- the two-vault theorem of the program

@@ -29,11 +29,11 @@ file_done name limit None go e = cc
 file_done name limit (Some bytes) go e = (bytes, refl, test_done (nat_le (length bytes) limit) (go bytes) _ refl e)
 
 -- a file that is read and checked spells a valid module
-form_done : (name : List ℕ) (r : Result (Module Label) FormFault) (go : Module Label → Outcome) → (on_form name r go).status ≡ Done → (m : Module Label) × (r ≡ Ok m) × ((go m).status ≡ Done)
+pub form_done : (name : List ℕ) (r : Result (Module Label) FormFault) (go : Module Label → Outcome) → (on_form name r go).status ≡ Done → (m : Module Label) × (r ≡ Ok m) × ((go m).status ≡ Done)
 form_done name (Err fault) go e = cc
 form_done name (Ok m) go e = (m, refl, e)
 
-fault_done : (name : List ℕ) (o : Option Invalid) (go : Outcome) → (on_fault name o go).status ≡ Done → (o ≡ None) × (go.status ≡ Done)
+pub fault_done : (name : List ℕ) (o : Option Invalid) (go : Outcome) → (on_fault name o go).status ≡ Done → (o ≡ None) × (go.status ≡ Done)
 fault_done name (Some fault) go e = cc
 fault_done name None go e = (refl, e)
 
@@ -64,7 +64,7 @@ once_is_valid = is_once
 
 -- ---- `check`
 
-file_limit : (name : List ℕ) (limit : ℕ) (o : Option (List ℕ)) (go : List ℕ → Outcome) → (on_file name limit o go).status ≡ Done → (bytes : List ℕ) × (o ≡ Some bytes) × (length bytes ≤ limit) × ((go bytes).status ≡ Done)
+pub file_limit : (name : List ℕ) (limit : ℕ) (o : Option (List ℕ)) (go : List ℕ → Outcome) → (on_file name limit o go).status ≡ Done → (bytes : List ℕ) × (o ≡ Some bytes) × (length bytes ≤ limit) × ((go bytes).status ≡ Done)
 file_limit name limit None go e = cc
 file_limit name limit (Some bytes) go e = within (nat_le (length bytes) limit) refl e
   where

@@ -18,7 +18,7 @@ unfolding vault_limit
 vault_limit_is = refl
 
 -- a file that is there, within its limit
-there : (name : List ℕ) (limit : ℕ) (o : Option (List ℕ)) (bytes : List ℕ) (go : List ℕ → Outcome) → o ≡ Some bytes → length bytes ≤ limit → on_file name limit o go ≡ go bytes
+pub there : (name : List ℕ) (limit : ℕ) (o : Option (List ℕ)) (bytes : List ℕ) (go : List ℕ → Outcome) → o ≡ Some bytes → length bytes ≤ limit → on_file name limit o go ≡ go bytes
 there name limit o bytes go e h =
     let t : nat_le (length bytes) limit ≡ true = grind (arith, nat_tests, h) in
     ap (λ (o : Option (List ℕ)). on_file name limit o go) e ∙ ap (λ (b : Bool). cond b (go bytes) (refuses (codes "TooLarge") name)) t

@@ -24,3 +24,12 @@ pub mod Dispatched
 pub mod DoneValid
 pub mod ModulesRead
 pub mod Called
+pub mod WordsCut
+pub mod PartsNamed
+pub mod PartsLoaded
+pub mod PartsRead
+pub mod Linkable
+pub mod TypesText
+pub mod HeldSets
+pub mod PartNames
+pub mod Rests

@@ -14,6 +14,10 @@ more_words (Ok u) line new mid a b words e f h =
     ∙ ap (λ (l : List ℕ). line ++ l) (sym (words_text-append a b) ∙ ap words_text h)
 more_words (Err e) line new mid a b words p f h = tt
 
+-- the same of words that were added
+pub words_added : (line new mid : List ℕ) (a b words : List (List ℕ)) → mid ≡ line ++ words_text a → new ≡ mid ++ words_text b → a ++ b ≡ words → new ≡ line ++ words_text words
+words_added line new mid a b words e f h = more_words {E = ℕ} (Ok tt) line new mid a b words e f h
+
 -- the same of no words before
 pub first_words : {E : Type 0} (r : Result (Unit {0}) E) (line new : List ℕ) (b words : List (List ℕ)) → OnOk r (new ≡ line ++ words_text b) → b ≡ words → OnOk r (new ≡ line ++ words_text words)
 first_words (Ok u) line new b words f h = f ∙ ap (λ (w : List (List ℕ)). line ++ words_text w) h

@@ -1,5 +1,5 @@
 -- The answer of the program: what its words give over told files.
-use Rattle.std.specs.Prelude.{ℕ, Bool, true, false, ◌&&◌, List, [], ◌∷◌, length, Option, Some, None, Result, Ok, Err, if◌then◌else◌, nat_le, codes}
+use Rattle.std.specs.Prelude.{ℕ, ◌-◌, Bool, true, false, ◌&&◌, List, [], ◌∷◌, length, Option, Some, None, Result, Ok, Err, if◌then◌else◌, nat_le, codes}
 use Rattle.std.specs.FinMap.{get}
 use Rattle.ctw_ops.specs.declared.types.Label.{Label}
 use Rattle.ctw_ops.specs.declared.types.ExternTag.{ExternTag}
@@ -11,14 +11,17 @@ use Rattle.ctw_module.specs.Lookup.{export_in}
 use Rattle.ctw_write.specs.Canon.{canon}
 use Rattle.ctw_modcheck.specs.declared.fault.Invalid.{Invalid}
 use Rattle.ctw_modcheck.specs.Check.{fault_of}
+use Rattle.ctw_link.specs.declared.fault.LinkFault.{LinkFault}
+use Rattle.ctw_link.specs.Sets.{ModuleSet}
+use Rattle.ctw_link.specs.Faults.{set_fault}
 use Rattle.ctw_io.specs.Files.{Files}
 use Rattle.ctwasm_top.specs.declared.Status.{Status}
 use Rattle.ctwasm_top.specs.declared.Status.TheVariants.{Done, Refused, Usage}
 use Rattle.ctwasm_top.specs.Session.{Callee, Move, Begin, Turn, opened, Run, plays, most_steps, fits}
 use Rattle.ctwasm_top.specs.declared.words.Argument.{Argument}
-use Rattle.ctwasm_top.specs.Lines.{reply_lines, refusal_line, read_line, check_line}
+use Rattle.ctwasm_top.specs.Lines.{reply_lines, refusal_line, read_line, check_line, link_line, linked_line}
 use Rattle.ctwasm_top.specs.Usage.{usage_text}
-use Rattle.ctwasm_top.specs.Words.{OnceWords, Command, Check, Canon, Once, command_of, same_file, Arguments, Read, NoArgument, arguments_of}
+use Rattle.ctwasm_top.specs.Words.{OnceWords, NamedFile, Command, Check, Canon, Link, Once, command_of, same_file, Arguments, Read, NoArgument, arguments_of}
 use Rattle.ctwasm_top.specs.Straight.{straight_of}
 use Rattle.ctwasm_top.specs.Checked.{StraightFunction, callee_of}
 
@@ -82,6 +85,37 @@ check_answer files name = load files name module_limit (λ bytes. read_valid nam
 abbrev pub canon_answer : Files → List ℕ → Outcome
 canon_answer files name = load files name module_limit (λ bytes. read name bytes (λ m. ends Done (canon m)))
 
+-- ---- the command `link`
+
+-- the limit on all modules of a command
+unfoldable pub modules_limit : ℕ
+modules_limit = 134217728
+
+abbrev pub at_most : ℕ → ℕ → ℕ
+at_most limit left = if nat_le limit left then limit else left
+
+-- the files of modules in order, of which so many bytes are left
+abbrev pub load_modules : Files → ℕ → List NamedFile → (List (List ℕ) → Outcome) → Outcome
+load_modules files left [] go = go []
+load_modules files left (part ∷ parts) go =
+    load files part.file (at_most module_limit left) (λ bytes. load_modules files (left - length bytes) parts (λ others. go (bytes ∷ others)))
+
+-- the modules of parts in order, each read and checked before the next
+abbrev pub read_parts : List NamedFile → List (List ℕ) → (ModuleSet → Outcome) → Outcome
+read_parts (part ∷ parts) (bytes ∷ others) go = read_valid part.file bytes (λ m. read_parts parts others (λ set. go (record { name = part.name; tree = m } ∷ set)))
+read_parts parts others go = go []
+
+abbrev pub on_set : ModuleSet → Option LinkFault → Outcome → Outcome
+on_set set (Some fault) go = ends Refused (link_line set fault)
+on_set set None go = go
+
+-- a set that matches
+abbrev pub match : ModuleSet → Outcome → Outcome
+match set go = on_set set (set_fault set) go
+
+abbrev pub link_answer : Files → List NamedFile → Outcome
+link_answer files parts = load_modules files modules_limit parts (λ contents. read_parts parts contents (λ set. match set (ends Done (linked_line (length set)))))
+
 -- ---- the call that the words ask for
 
 abbrev pub is_function : Option (ExternTag × ℕ) → Bool
@@ -140,6 +174,7 @@ once_answer files w = unless_same (same_file w) (with_arguments (arguments_of w.
 abbrev pub command_answer : Files → Command → Outcome
 command_answer files (Check file) = check_answer files file
 command_answer files (Canon file) = canon_answer files file
+command_answer files (Link parts) = link_answer files parts
 command_answer files (Once w) = once_answer files w
 
 abbrev pub on_words : Files → Option Command → Outcome

@@ -3,6 +3,7 @@ pub mod Session
 pub mod Lines
 pub mod Usage
 pub mod OnceWords
+pub mod NamedFiles
 pub mod Words
 pub mod Commands
 pub mod Arguments
@@ -18,3 +19,4 @@ pub mod ValidCalls
 pub mod Straight
 pub mod StraightInstrs
 pub mod Modules
+pub mod Parts

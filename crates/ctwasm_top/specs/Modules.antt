@@ -4,6 +4,8 @@ use Rattle.ctw_ops.specs.declared.types.Label.{Label}
 use Rattle.ctw_ops.specs.Tree.{Module}
 use Rattle.ctw_module.specs.Read.{module_at}
 use Rattle.ctw_modcheck.specs.Check.{fault_of}
+use Rattle.ctwasm_top.specs.declared.modules.FormError.{FormError}
+use Rattle.ctwasm_top.specs.declared.modules.FormError.TheVariants as forms
 use Rattle.ctwasm_top.specs.declared.modules.ModuleFault.{ModuleFault}
 use Rattle.ctwasm_top.specs.declared.modules.ModuleFault.TheVariants as faults
 
@@ -13,10 +15,15 @@ IsRefused (faults.Form fault) bytes = module_at bytes ≡ Err fault
 IsRefused (faults.Invalid fault) bytes = (m : Module Label) × (module_at bytes ≡ Ok m) × (fault_of m ≡ Some fault)
 IsRefused faults.NoMemory bytes = Unit {0}
 
+-- the bytes spell no module
+abbrev pub IsUnspelled : FormError → List ℕ → Type 0
+IsUnspelled (forms.Form fault) bytes = module_at bytes ≡ Err fault
+IsUnspelled forms.NoMemory bytes = Unit {0}
+
 -- the bytes spell this module
-abbrev pub IsRead : {A : Type 0} → (A → Module Label) → Result A ModuleFault → List ℕ → Type 0
+abbrev pub IsRead : {A : Type 0} → (A → Module Label) → Result A FormError → List ℕ → Type 0
 IsRead seen (Ok module_read) bytes = module_at bytes ≡ Ok (seen module_read)
-IsRead seen (Err fault) bytes = IsRefused fault bytes
+IsRead seen (Err fault) bytes = IsUnspelled fault bytes
 
 -- the bytes spell this module, which is valid
 abbrev pub IsReadValid : {A : Type 0} → (A → Module Label) → Result A ModuleFault → List ℕ → Type 0

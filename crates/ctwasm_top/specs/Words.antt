@@ -5,6 +5,7 @@ use Rattle.std.specs.List.{list_all, list_any}
 use Rattle.std.specs.Char.{is_ascii_digit}
 use Rattle.std.specs.Str.Parse.{digits_value}
 pub use Rattle.ctwasm_top.specs.OnceWords.{OnceWords}
+pub use Rattle.ctwasm_top.specs.NamedFiles.{NamedFile, named_file, named_files}
 use Rattle.ctwasm_top.specs.declared.words.Argument.{Argument}
 use Rattle.ctwasm_top.specs.declared.words.Argument.TheVariants.{Number, Vault}
 
@@ -18,20 +19,34 @@ once_words (command ∷ m ∷ vault ∷ sealed ∷ export ∷ arguments) =
     else None
 once_words _ = None
 
--- the commands: `check M`, `canon M`, `once M VAULT SEALED EXPORT ARG..`
+-- the words behind `link`: 1 to 64
+abbrev pub link_words : List (List ℕ) → Option (List NamedFile)
+link_words (command ∷ words) = if bytes_eq command (codes "link") && (nat_le 1 (length words) && nat_le (length words) 64) then named_files words else None
+link_words [] = None
+
+-- the commands: `check M`, `canon M`, `link NAME=M..`, `once M VAULT SEALED EXPORT ARG..`
 pub data Command : Type 0 where
   Check : (module_file : List ℕ) → Command
   Canon : (module_file : List ℕ) → Command
+  Link : (parts : List NamedFile) → Command
   Once : (words : OnceWords) → Command
 
 -- a command with one file
 abbrev pub file_command : List ℕ → List ℕ → Option Command
 file_command command file = if bytes_eq command (codes "check") then Some (Check file) else if bytes_eq command (codes "canon") then Some (Canon file) else None
 
+abbrev pub or_command : Option Command → Option Command → Option Command
+or_command (Some command) other = Some command
+or_command None other = other
+
+-- a command with one file, where there are two words
+abbrev pub short_command : List (List ℕ) → Option Command
+short_command (command ∷ file ∷ []) = file_command command file
+short_command words = None
+
 -- the command that the words have the form of
 abbrev pub command_of : List (List ℕ) → Option Command
-command_of (command ∷ file ∷ []) = file_command command file
-command_of words = option_map Once (once_words words)
+command_of words = or_command (short_command words) (or_command (option_map Link (link_words words)) (option_map Once (once_words words)))
 
 -- the word of a command's vault, where the command has one
 abbrev pub vault_in : Option Command → Option (List ℕ)

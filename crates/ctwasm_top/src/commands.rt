@@ -7,7 +7,7 @@ ghost use Rattle.ctwasm_top.specs.Answer.{check_answer, canon_answer};
 ghost use Rattle.ctwasm_top.specs.Headline.{DidTold};
 
 use crate::Status;
-use crate::modules::{ModuleFault, read_module, read_valid, refuse_form, refuse_module};
+use crate::modules::{FormError, read_module, read_valid, refuse_form, refuse_module};
 use crate::outside::{MODULE_LIMIT, load_file, refuse_load, say};
 use ctw_io::{Shelf, Sink};
 use ctw_write::canon;
@@ -53,8 +53,8 @@ pub fn canon_file<F: Shelf, K: Sink>(
     };
     let module = match read_module(alloc, &bytes) {
         Ok(module) => module,
-        Err(ModuleFault::Form(fault)) => return refuse_form(alloc, out, fault, name),
-        Err(_) => return Status::NoMemory,
+        Err(FormError::Form(fault)) => return refuse_form(alloc, out, fault, name),
+        Err(FormError::NoMemory) => return Status::NoMemory,
     };
     match canon(alloc, &module) {
         Ok(text) => say(out, &text, Status::Done),

@@ -39,7 +39,7 @@ fn push_type(byte: u8, types: &mut Vec<ValType>) -> Result<(), AllocError>
 }
 
 /// The types that bytes stand for.
-fn value_types(alloc: Global, bytes: &[u8]) -> Result<Vec<ValType>, AllocError>
+pub fn value_types(alloc: Global, bytes: &[u8]) -> Result<Vec<ValType>, AllocError>
     ensures { IfOk result (λ types. types.items ≡ byte_types bytes.now) }
 {
     let mut types = Vec::new(alloc);

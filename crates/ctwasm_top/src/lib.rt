@@ -4,12 +4,19 @@
 mod callable;
 mod commands;
 mod function;
+#[cfg(test)]
+mod hexadecimal;
 mod lines;
+mod linking;
+#[cfg(test)]
+mod linking_tests;
 mod machine;
 mod modules;
 mod once;
 mod outside;
+mod parts;
 mod session;
+mod set_lines;
 mod straight;
 #[cfg(test)]
 mod tests;
@@ -22,13 +29,14 @@ ghost use Rattle.ctw_io.specs.Files.{Files};
 ghost use Rattle.ctw_io.specs.Faults.{Rose};
 ghost use Rattle.ctwasm_top.specs.declared.Status.TheVariants.{Done, Refused, Usage, ReadFault, WriteFault, SaveFault};
 ghost use Rattle.ctwasm_top.specs.Usage.{usage_text};
-ghost use Rattle.ctwasm_top.specs.Words.{OnceWords, Once, command_of, vault_word};
+ghost use Rattle.ctwasm_top.specs.Words.{OnceWords, NamedFile, Link, Once, command_of, vault_word};
 ghost use Rattle.ctwasm_top.specs.Answer.{ends, answer, releases};
 ghost use Rattle.ctwasm_top.specs.Headline.{Did, DidTold, OtherVault, SameOutcome};
-ghost use Rattle.ctwasm_top.specs.ValidCalls.{CallsValid, HoldsValid, check_words, canon_words, GivesSpelling};
+ghost use Rattle.ctwasm_top.specs.ValidCalls.{CallsValid, HoldsValid, check_words, canon_words, GivesSpelling, HoldsSet};
 
 use commands::{canon_file, check_file};
 use ctw_io::{Shelf, Sink};
+use linking::link_files;
 use once::run_once;
 use outside::say;
 use std::alloc::Global;
@@ -87,15 +95,16 @@ fn dispatch<F: Shelf, K: Sink>(
         None => say(out, USAGE, Status::Usage),
         Some(Command::Check(name)) => check_file(alloc, name, shelf, out),
         Some(Command::Canon(name)) => canon_file(alloc, name, shelf, out),
+        Some(Command::Link(parts)) => link_files(alloc, &parts, shelf, out),
         Some(Command::Once(once)) => run_once(alloc, &once, shelf, out),
     }
 }
 
 /// Does what the words after the program's name say, over these files and this place for text.
 ///
-/// For now it has the commands `check M`, `canon M`, and `once M VAULT SEALED EXPORT ARG..` over straight modules; all other
-/// words are a wrong use, whose text is written. Every text is written before a file is saved, and files are saved in the
-/// last place.
+/// For now it has the commands `check M`, `canon M`, `link NAME=M..`, and `once M VAULT SEALED EXPORT ARG..` over straight
+/// modules; all other words are a wrong use, whose text is written. Every text is written before a file is saved, and files
+/// are saved in the last place.
 pub fn ctwasm<F: Shelf, K: Sink>(
     alloc: Global,
     words: &[String],
@@ -112,6 +121,10 @@ pub fn ctwasm<F: Shelf, K: Sink>(
 
     // `canon` writes bytes that spell the file's module.
     ensures spelled { (files : Files) (name : List ℕ) → F.files shelf.old ≡ Some files → map string_bytes words.now ≡ canon_words name → result ≡ Done → GivesSpelling files name }
+
+    // `link` ends well only for files that hold valid modules that match, and refuses no such files.
+    ensures linked { (files : Files) (parts : List NamedFile) → F.files shelf.old ≡ Some files → command_of (map string_bytes words.now) ≡ Some (Link parts) → result ≡ Done → HoldsSet files parts }
+    ensures matched { (files : Files) (parts : List NamedFile) → F.files shelf.old ≡ Some files → command_of (map string_bytes words.now) ≡ Some (Link parts) → HoldsSet files parts → result ≡ Refused → ⊥ }
 
     // A call is made only of a module that is valid.
     ensures valid { (files : Files) (w : OnceWords) → F.files shelf.old ≡ Some files → command_of (map string_bytes words.now) ≡ Some (Once w) → result ≡ Done → CallsValid (map string_bytes words.now) files }

@@ -22,7 +22,7 @@ fn width_word(width: Width) -> &'static [u8]
 }
 
 /// Adds decimal digits.
-fn add_number(line: &mut Vec<u8>, number: u32) -> Result<(), AllocError>
+pub fn add_number(line: &mut Vec<u8>, number: u32) -> Result<(), AllocError>
     ensures { OnOk result (line.new.items ≡ line.old.items ++ decimal number) }
 {
     let mut buffer = Buffer::new();
@@ -73,7 +73,7 @@ pub fn refusal_line(alloc: Global, kind: &str, word: &str) -> Result<Vec<u8>, Al
 }
 
 /// Adds a word behind a blank.
-fn add_word(line: &mut Vec<u8>, word: &[u8]) -> Result<(), AllocError>
+pub fn add_word(line: &mut Vec<u8>, word: &[u8]) -> Result<(), AllocError>
     ensures { OnOk result (line.new.items ≡ line.old.items ++ words_text (word.now ∷ [])) }
 {
     line.push(b' ')?;
@@ -81,7 +81,7 @@ fn add_word(line: &mut Vec<u8>, word: &[u8]) -> Result<(), AllocError>
 }
 
 /// Adds decimal digits behind a blank.
-fn add_number_word(line: &mut Vec<u8>, number: u32) -> Result<(), AllocError>
+pub fn add_number_word(line: &mut Vec<u8>, number: u32) -> Result<(), AllocError>
     ensures { OnOk result (line.new.items ≡ line.old.items ++ words_text (decimal number ∷ [])) }
 {
     line.push(b' ')?;
@@ -223,7 +223,7 @@ fn add_function(line: &mut Vec<u8>, f: u32, fault: BodyFault) -> Result<(), Allo
 }
 
 /// Adds a kind and a number.
-fn add_numbered(line: &mut Vec<u8>, kind: &[u8], number: u32) -> Result<(), AllocError>
+pub fn add_numbered(line: &mut Vec<u8>, kind: &[u8], number: u32) -> Result<(), AllocError>
     ensures { OnOk result (line.new.items ≡ line.old.items ++ words_text (kind.now ∷ decimal number ∷ [])) }
 {
     add_word(line, kind)?;

@@ -22,6 +22,15 @@ use ctw_module::{FormFault, Module};
 use ctw_read::read;
 use std::alloc::Global;
 
+/// Why no module was read.
+#[derive(Drop)]
+pub enum FormError {
+    /// The bytes spell none.
+    Form(FormFault),
+    /// Memory was wanting.
+    NoMemory,
+}
+
 /// Why a file's bytes are no module that is valid.
 #[derive(Drop)]
 pub enum ModuleFault {
@@ -34,17 +43,16 @@ pub enum ModuleFault {
 }
 
 /// The module that bytes spell.
-pub fn read_module<'a>(alloc: Global, bytes: &'a [u8]) -> Result<Module<'a>, ModuleFault>
+pub fn read_module<'a>(alloc: Global, bytes: &'a [u8]) -> Result<Module<'a>, FormError>
     requires { length bytes.now < 2 ^ 32 }
     ensures { IsRead tree result bytes.now }
 {
     match read(alloc, bytes) {
         Ok(module) => Ok(module),
-        Err(ctw_read::ReadFault::Bad { kind, place }) => Err(ModuleFault::Form(FormFault {
-            kind,
-            place,
-        })),
-        Err(ctw_read::ReadFault::NoMemory) => Err(ModuleFault::NoMemory),
+        Err(ctw_read::ReadFault::Bad { kind, place }) => {
+            Err(FormError::Form(FormFault { kind, place }))
+        }
+        Err(ctw_read::ReadFault::NoMemory) => Err(FormError::NoMemory),
     }
 }
 
@@ -54,7 +62,11 @@ pub fn read_valid<'a>(alloc: Global, bytes: &'a [u8]) -> Result<Module<'a>, Modu
     ensures told { IsReadValid tree result bytes.now }
     ensures valid { IfOk result (λ v. IsValid (tree v)) }
 {
-    let module = read_module(alloc, bytes)?;
+    let module = match read_module(alloc, bytes) {
+        Ok(module) => module,
+        Err(FormError::Form(fault)) => return Err(ModuleFault::Form(fault)),
+        Err(FormError::NoMemory) => return Err(ModuleFault::NoMemory),
+    };
     match check(alloc, &module) {
         Ok(()) => Ok(module),
         Err(Invalid::NoMemory) => Err(ModuleFault::NoMemory),

@@ -1,3 +1,4 @@
+use crate::hexadecimal::append;
 use ctw_modcheck::{Invalid, check};
 use ctw_ops::Space;
 use ctw_read::read;
@@ -7,32 +8,6 @@ use std::process::Abort;
 
 /// The first eight bytes of a CT module.
 const CT: &str = "0061736D 01004354";
-
-/// The value of a hexadecimal digit; None for any other character.
-fn digit(character: u8) -> Option<u8> {
-    match character {
-        b'0'..=b'9' => Some(character - b'0'),
-        b'A'..=b'F' => Some(character - b'A' + 10),
-        _ => None,
-    }
-}
-
-/// Appends the bytes that a text spells in hexadecimal, with blanks between some.
-fn append(bytes: &mut Vec<u8>, text: &str) -> Result<(), AllocError> {
-    let mut high = None;
-    for character in text.as_bytes() {
-        if let Some(low) = digit(*character) {
-            match high {
-                None => high = Some(low),
-                Some(first) => {
-                    bytes.push((first << 4) | low)?;
-                    high = None;
-                }
-            }
-        }
-    }
-    Ok(())
-}
 
 /// The answer for a CT module with these sections.
 fn answer(rt: &impl Abort, alloc: Global, sections: &str) -> Result<(), Invalid> {

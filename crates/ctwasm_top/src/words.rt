@@ -1,12 +1,12 @@
 // The words of a command.
-ghost use Rattle.std.specs.Prelude.{◌≡◌, map, option_map, true, length, ◌<◌, string_bytes};
+ghost use Rattle.std.specs.Prelude.{◌≡◌, ◌≤◌, map, filter_map, option_map, is_some, true, length, ◌<◌, string_bytes, IfOk};
 ghost use Rattle.std.specs.List.{list_all};
 ghost use Rattle.std.specs.Char.{is_ascii_digit};
-ghost use Rattle.ctwasm_top.specs.Words.{once_words, file_command, command_of, has_empty, same_file, small_number, argument_of, arguments_of};
+ghost use Rattle.ctwasm_top.specs.Words.{once_words, named_file, named_files, link_words, file_command, short_command, command_of, has_empty, same_file, small_number, argument_of, arguments_of};
 ghost use Rattle.ctwasm_top.specs.Arguments.{AreArguments};
-ghost use Rattle.ctwasm_top.specs.Commands.{command_in};
+ghost use Rattle.ctwasm_top.specs.Commands.{part_named, command_in};
 
-use std::alloc::{AllocFailed, Global};
+use std::alloc::{AllocError, AllocFailed, Global};
 use std::marker::Model;
 
 /// The words of `once M VAULT SEALED EXPORT ARG..`.
@@ -26,6 +26,100 @@ impl<'a> Model for Once<'a> {
     ghost Value = { OnceWords };
 
     ghost view = { λ w. record { module_file = w.module_file.now; vault = w.vault.now; sealed = w.sealed.now; export = w.export.now; arguments = map string_bytes w.arguments.now } };
+}
+
+/// The most parts of a command.
+const MOST_PARTS: usize = 64;
+
+/// A part's name, and the file of its module.
+#[derive(Clone, Copy, Debug, PartialEq, Eq)]
+pub struct PartFile<'a> {
+    /// The name, which isn't empty.
+    pub name: &'a str,
+    /// The file.
+    pub file: &'a str,
+}
+
+/// What a word NAME=M names; None where it has another form.
+fn part_file(word: &str) -> Option<PartFile<'_>>
+    ensures { option_map part_named result ≡ named_file word.now }
+{
+    let (name, file) = word.split_once('=')?;
+    if name.is_empty() {
+        return None;
+    }
+    Some(PartFile { name, file })
+}
+
+/// Whether each word has the form NAME=M.
+fn are_named(words: &[String]) -> bool
+    ensures { result ≡ is_some (named_files (map string_bytes words.now)) }
+{
+    'words: for word in words {
+        if part_file(word.as_str()).is_none() {
+            return false;
+        }
+    }
+    true
+}
+
+/// The words behind `link`, 1 to 64 of the form NAME=M. Contracts see the parts that they name.
+#[derive(Drop)]
+pub struct LinkWords<'a> {
+    words: &'a [String],
+}
+
+impl<'a> Model for LinkWords<'a> {
+    ghost use Rattle.std.specs.Prelude.{◌≡◌, ◌≤◌, List, Some, map, length, filter_map, string_bytes};
+    ghost use Rattle.ctwasm_top.specs.NamedFiles.{NamedFile, named_file, named_files};
+
+    ghost Value = { List NamedFile };
+
+    ghost view = { λ w. filter_map named_file (map string_bytes w.words.now) };
+
+    ghost invariant = { λ w. (1 ≤ length w.words.now) × (length w.words.now ≤ 64)
+        × (named_files (map string_bytes w.words.now) ≡ Some (filter_map named_file (map string_bytes w.words.now))) };
+}
+
+/// The parts that words of the form NAME=M name, in order; words of another form name none.
+fn part_files<'a>(alloc: Global, words: &'a [String]) -> Result<Vec<PartFile<'a>>, AllocError>
+    ensures { IfOk result (λ parts. map part_named parts.items ≡ filter_map named_file (map string_bytes words.now)) }
+{
+    let mut parts = Vec::new(alloc);
+    'words: for word in words {
+        let Some(part) = part_file(word.as_str()) else {
+            continue 'words;
+        };
+        parts.push(part)?;
+    }
+    Ok(parts)
+}
+
+impl<'a> LinkWords<'a> {
+    /// The parts that they name, in order.
+    pub fn parts(&self, alloc: Global) -> Result<Vec<PartFile<'a>>, AllocError>
+        ensures named { IfOk result (λ parts. map part_named parts.items ≡ self.now) }
+        ensures some { 1 ≤ length self.now }
+        ensures few { length self.now ≤ 64 }
+    {
+        part_files(alloc, self.words)
+    }
+}
+
+/// The words of `link`; None where they have another form.
+fn link_words(words: &[String]) -> Option<LinkWords<'_>>
+    ensures { result ≡ link_words (map string_bytes words.now) }
+{
+    let [command, parts @ ..] = words else {
+        return None;
+    };
+    if command.as_str() != "link" {
+        return None;
+    }
+    if parts.is_empty() || parts.len() > MOST_PARTS || !are_named(parts) {
+        return None;
+    }
+    Some(LinkWords { words: parts })
 }
 
 /// An argument of the called function.
@@ -75,6 +169,8 @@ pub enum Command<'a> {
     Check(&'a str),
     /// `canon M`.
     Canon(&'a str),
+    /// `link NAME=M..`.
+    Link(LinkWords<'a>),
     /// `once M VAULT SEALED EXPORT ARG..`.
     Once(Once<'a>),
 }
@@ -90,12 +186,25 @@ fn file_command<'a>(command: &str, file: &'a str) -> Option<Command<'a>>
     }
 }
 
+/// The command with one file, where there are two words; None where they are none's.
+fn short_command(words: &[String]) -> Option<Command<'_>>
+    ensures { option_map command_in result ≡ short_command (map string_bytes words.now) }
+{
+    let [command, file] = words else {
+        return None;
+    };
+    file_command(command.as_str(), file.as_str())
+}
+
 /// The command that the words have the form of; None where they have none.
 pub fn command_of(words: &[String]) -> Option<Command<'_>>
     ensures { option_map command_in result ≡ command_of (map string_bytes words.now) }
 {
-    if let [command, file] = words {
-        return file_command(command.as_str(), file.as_str());
+    if let Some(command) = short_command(words) {
+        return Some(command);
+    }
+    if let Some(parts) = link_words(words) {
+        return Some(Command::Link(parts));
     }
     match once_words(words) {
         Some(once) => Some(Command::Once(once)),

@@ -4,6 +4,7 @@ use Rattle.ctwasm_top.specs.Answer.{answer}
 use Rattle.ctwasm_top.proofs.AlikeAnswers.{answer_alike}
 use Rattle.ctwasm_top.proofs.Dispatched.{done_answer, refused_answer}
 use Rattle.ctwasm_top.proofs.DoneValid.{once_is_valid, check_is_valid, canon_is_spelling, is_passed}
+use Rattle.ctwasm_top.proofs.HeldSets.{linked_is_held, held_is_linked}
 use Rattle.ctwasm_top.proofs.ctwasm.Goals as goal
 
 pub returns-clause-hidden : goal.returns-clause-hidden
@@ -23,3 +24,10 @@ returns-clause-spelled g c = λ files name told is done.
 
 pub returns-clause-valid : goal.returns-clause-valid
 returns-clause-valid g c = λ files w told is done. once_is_valid (map string_bytes c.args.words.now) files w is (done_answer (map string_bytes c.args.words.now) files _ _ _ _ (c.dispatch.ensures.did files told) done)
+
+pub returns-clause-linked : goal.returns-clause-linked
+returns-clause-linked g c = λ files parts told is done. linked_is_held (map string_bytes c.args.words.now) files parts is (done_answer (map string_bytes c.args.words.now) files _ _ _ _ (c.dispatch.ensures.did files told) done)
+
+pub returns-clause-matched : goal.returns-clause-matched
+returns-clause-matched g c = λ files parts told is holds refused.
+    held_is_linked (map string_bytes c.args.words.now) files parts is holds (refused_answer (map string_bytes c.args.words.now) files _ _ _ _ (c.dispatch.ensures.did files told) refused)

@@ -19,5 +19,8 @@ returns-in-Some-Check-clause-did g c = λ files told. on_command (map string_byt
 pub returns-in-Some-Canon-clause-did : goal.returns-in-Some-Canon-clause-did
 returns-in-Some-Canon-clause-did g c = λ files told. on_command (map string_bytes c.args.words.now) files c.canon_file.result _ _ _ _ (sym c.in-Some-Canon.ensures ∙ ap (λ (k : Command). Some (command_in k)) c.in-Some-Canon.field-0-is) (c.canon_file.ensures.did files told)
 
+pub returns-in-Some-Link-clause-did : goal.returns-in-Some-Link-clause-did
+returns-in-Some-Link-clause-did g c = λ files told. on_command (map string_bytes c.args.words.now) files c.link_files.result _ _ _ _ (sym c.in-Some-Link.ensures ∙ ap (λ (k : Command). Some (command_in k)) c.in-Some-Link.field-0-is) (c.link_files.ensures.did files told)
+
 pub returns-in-Some-Once-clause-did : goal.returns-in-Some-Once-clause-did
 returns-in-Some-Once-clause-did g c = λ files told. on_command (map string_bytes c.args.words.now) files c.run_once.result _ _ _ _ (sym c.in-Some-Once.ensures ∙ ap (λ (k : Command). Some (command_in k)) c.in-Some-Once.field-0-is) (c.run_once.ensures.did files told)

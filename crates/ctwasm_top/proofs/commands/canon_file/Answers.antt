@@ -1,11 +1,11 @@
 use Rattle.std.proofs.Common.{◌≤◌, ℕ, List, Some, length, sym, ap, ◌∙◌, subst}
 use Rattle.ctw_module.specs.Trees.{tree}
 use Rattle.ctw_write.specs.Canon.{canon}
-use Rattle.ctwasm_top.specs.declared.modules.ModuleFault.{ModuleFault}
+use Rattle.ctwasm_top.specs.declared.modules.FormError.{FormError}
 use Rattle.ctwasm_top.specs.declared.Status.TheVariants.{Done}
 use Rattle.ctwasm_top.specs.Answer.{Outcome, ends, read}
 use Rattle.ctwasm_top.specs.Headline.{Did}
-use Rattle.ctwasm_top.specs.Modules.{IsRefused}
+use Rattle.ctwasm_top.specs.Modules.{IsUnspelled}
 use Rattle.ctwasm_top.proofs.FileByFile.{module_limit_is, not_loaded, loaded}
 use Rattle.ctwasm_top.proofs.ModulesRead.{form_read}
 use Rattle.ctwasm_top.proofs.Played.{told_nothing}
@@ -25,10 +25,10 @@ returns-in-Err-Form-clause-did g c = λ files told.
     let e = l.0 ∙ ap (λ (b : List ℕ). Some b) (sym c.deref.ensures.value) in
     let h = subst (λ (b : List ℕ). length b ≤ 67108864) (sym c.deref.ensures.value) l.1 in
     loaded c.refuse_form.result files _ _ _ c.args.name.now c.deref.result.now 67108864 (written c.args.name.now) (c.load_file.ensures.unchanged ∙ told) module_limit_is e h
-    (c.refuse_form.ensures.did files c.deref.result.now (λ m. ends Done (canon m)) (subst (λ (f : ModuleFault). IsRefused f c.deref.result.now) c.in-Err-Form.field-0-is c.in-Err-Form.ensures))
+    (c.refuse_form.ensures.did files c.deref.result.now (λ m. ends Done (canon m)) (subst (λ (f : FormError). IsUnspelled f c.deref.result.now) c.in-Err-Form.field-0-is c.in-Err-Form.ensures))
 
-pub returns-in-Err-read_module : goal.returns-in-Err-read_module
-returns-in-Err-read_module g c = record {
+pub returns-in-Err-NoMemory : goal.returns-in-Err-NoMemory
+returns-in-Err-NoMemory g c = record {
   did = λ files told. told_nothing _ files _ _ (c.load_file.ensures.unchanged ∙ told);
   read = λ e. cc;
   write = λ e. cc;

@@ -1,0 +1,7 @@
+use Rattle.std.proofs.Common.{◌≡◌, map, take, filter_map, string_bytes}
+use Rattle.ctwasm_top.specs.Commands.{part_named}
+use Rattle.ctwasm_top.specs.NamedFiles.{named_file}
+use Rattle.ctwasm_top.proofs.words.part_files.Given as goal
+
+abbrev pub invariant-words : goal.invariant-words
+invariant-words l = map part_named l.parts.items ≡ filter_map named_file (map string_bytes (take l.word-index l.words))
