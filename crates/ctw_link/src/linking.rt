@@ -21,9 +21,11 @@ use std::alloc::Global;
 /// is met by an export of an earlier part whose type, by that part's own declaration, matches.
 ///
 /// There are one to 64 parts, each valid, which together define fewer than 2^32 functions and fewer than 2^32 globals.
-/// Else the answer is the first fault: `DoubleName` over all parts; then part by part and import by import `NoImport`
-/// before `ImportType`; then `TableMix`, `TooManyPages` and `TooManyEntries`. `NoMemory` comes for want of memory
-/// alone. Whatever the answer, the parts are taken. Takes linear time but for the ordered maps of names and of types.
+///
+/// Where the parts don't match, the answer is the first fault: `DoubleName` over all parts; then part by part and import
+/// by import `NoImport` before `ImportType`; then `TableMix` of the least table; then `TooManyPages` above 4,096, and
+/// `TooManyEntries` above 1,000,000. `NoMemory` comes for want of memory alone. Whatever the answer, the parts are taken.
+/// Takes linear time but for the ordered maps of names and of types.
 pub fn link<'a>(alloc: Global, parts: Vec<Part<'a>>) -> Result<LinkedSet<'a>, LinkFault<'a>>
     requires { CanBeLinked parts.items }
     ensures parts { IfOk result (λ set. set ≡ parts.entry.items) }
