@@ -1,5 +1,5 @@
 -- What reading gives behind a byte.
-use Rattle.std.proofs.Common.{◌≡◌, ℕ, Option, Ok, Err, refl}
+use Rattle.std.proofs.Common.{◌≡◌, ℕ, Option, Result, Ok, Err, refl}
 use Rattle.ctw_ops.specs.ValueType.{ValueType}
 use Rattle.ctw_ops.specs.declared.types.Label.{Label}
 use Rattle.ctw_ops.specs.declared.types.Label.TheVariants.{Secret}
@@ -12,7 +12,7 @@ use Rattle.ctw_flat.specs.declared.fault.CodeKind.TheVariants.{Truncated}
 use Rattle.ctw_flat.specs.declared.opcode.Form.{Form}
 use Rattle.ctw_flat.specs.declared.opcode.First.{First}
 use Rattle.ctw_flat.specs.Opcodes.{opcode, secret_form, block_type, reserved}
-use Rattle.ctw_flat.specs.Read.{fault, block_type_at, reserved_at, immediate_at, secret_at, behind_at, op_at}
+use Rattle.ctw_flat.specs.Read.{fault, block_type_at, reserved_at, immediate_at, secret_at, behind_at, behind_byte_at, op_at}
 
 pub block_ok : (i o : Input) (b : ℕ) (t : Option (ValueType Label)) → byte_at i ≡ Ok (b, o) → block_type b ≡ Ok t → block_type_at i ≡ Ok (t, o)
 unfolding block_type_at
@@ -45,6 +45,13 @@ op_ok i o b f e s = rw (one_of_ok (fault Truncated) fault opcode i o b f e s) re
 pub op_bad : (i o : Input) (b : ℕ) (kind : CodeKind) → byte_at i ≡ Ok (b, o) → opcode b ≡ Err kind → op_at i ≡ Err (fault kind i.at)
 unfolding op_at
 op_bad i o b kind e s = rw (one_of_bad (fault Truncated) fault opcode i o b kind e s) refl
+
+pub op_behind : (i o : Input) (b : ℕ) → byte_at i ≡ Ok (b, o) → op_at i ≡ behind_byte_at (opcode b) i.at o
+op_behind i o b e = go (opcode b) refl
+  where
+    go : (r : Result First CodeKind) → opcode b ≡ r → op_at i ≡ behind_byte_at r i.at o
+    go (Ok f) s = op_ok i o b f e s
+    go (Err kind) s = op_bad i o b kind e s
 
 pub op_short : (i : Input) (d : LebFault) → byte_at i ≡ Err d → op_at i ≡ Err (fault Truncated i.at)
 unfolding op_at

@@ -1,5 +1,6 @@
 -- The reader of a whole body: opcodes from left to right, with what is open, and the first fault.
 use Rattle.std.specs.Prelude.{◌≡◌, ℕ, ◌+◌, Bool, true, false, List, [], ◌∷◌, length, Option, Some, None, Result, Ok, Err, nat_le, nat_lt, ◌&&◌, if◌then◌else◌}
+use Rattle.ctw_ops.specs.Limits.{most_nesting}
 use Rattle.ctw_ops.specs.declared.types.Label.{Label}
 use Rattle.ctw_ops.specs.Numeric.{within}
 use Rattle.ctw_ops.specs.Code.{Code, Shape, OfBlock, OfLoop, OfIf, Op, Plain, Opens, Closes, ByEnd, ByElse}
@@ -25,13 +26,13 @@ own_body = false ∷ []
 -- as many blocks are open as may be
 abbrev pub is_full : List Bool → Bool
 is_full [] = false
-is_full (b ∷ outer) = nat_le 4096 (length outer)
+is_full (b ∷ outer) = nat_le most_nesting (length outer)
 
 -- whether an opcode may stand there
 abbrev pub allows : List Bool → Op Label → Bool
 allows [] op = false
 allows (b ∷ outer) (Plain leaf) = true
-allows (b ∷ outer) (Opens shape t) = nat_lt (length outer) 4096
+allows (b ∷ outer) (Opens shape t) = nat_lt (length outer) most_nesting
 allows (b ∷ outer) (Closes ByEnd) = true
 allows (b ∷ outer) (Closes ByElse) = b
 

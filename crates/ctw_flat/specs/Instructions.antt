@@ -1,8 +1,8 @@
 -- What an instruction in place stands for.
-use Rattle.std.specs.Prelude.{◌≡◌, ◌<◌, ◌^◌, ℕ, false, List, [], Result, Ok, Err}
+use Rattle.std.specs.Prelude.{◌≡◌, ℕ, true, false, List, [], Result, Ok, Err}
 use Rattle.ctw_ops.specs.declared.types.Label.{Label}
-use Rattle.ctw_ops.specs.declared.types.Width.{Width}
-use Rattle.ctw_ops.specs.declared.types.Width.TheVariants.{W32, W64}
+use Rattle.ctw_ops.specs.Types.{FitsWidth}
+use Rattle.ctw_ops.specs.Forms.{is_load, is_store}
 use Rattle.ctw_ops.specs.Code as ops
 use Rattle.ctw_ops.specs.Code.{Op, Plain}
 use Rattle.ctw_leb.specs.Grammar.{Times}
@@ -11,6 +11,11 @@ use Rattle.ctw_leb.specs.Input.{Input}
 use Rattle.ctw_flat.specs.declared.fault.CodeKind.{CodeKind}
 use Rattle.ctw_flat.specs.declared.fault.CodeKind.TheVariants.{Unbalanced, TooDeep}
 use Rattle.ctw_flat.specs.declared.fault.CodeFault.{CodeFault}
+use Rattle.ctw_flat.specs.declared.opcode.Access.TheVariants as access
+use Rattle.ctw_flat.specs.declared.opcode.Form.{Form}
+use Rattle.ctw_flat.specs.declared.opcode.Form.TheVariants as form
+use Rattle.ctw_flat.specs.declared.opcode.First.{First}
+use Rattle.ctw_flat.specs.declared.opcode.First.TheVariants.{Direct, Prefix}
 use Rattle.ctw_flat.specs.declared.instr.Instr.{Instr}
 use Rattle.ctw_flat.specs.declared.instr.Instr.TheVariants as instr
 use Rattle.ctw_flat.specs.Read.{indexes_at}
@@ -54,17 +59,24 @@ op_of (instr.Numeric op label) = Plain (ops.Numeric op label)
 op_of (instr.Classify width) = Plain (ops.Classify width)
 op_of (instr.Declassify width) = Plain (ops.Declassify width)
 
--- the numbers of a width are below 2 to its bits
-abbrev pub FitsWidth : Width → ℕ → Type 0
-FitsWidth W32 bits = bits < 2 ^ 32
-FitsWidth W64 bits = bits < 2 ^ 64
-
--- the lent bytes of a branch table spell its targets and nothing else, a store isn't signed, and a constant's bits fit its width
+-- the lent bytes of a branch table spell its targets and nothing else, loads and stores have a form that is listed, a store isn't
+-- signed, and a constant's bits fit its width
 abbrev pub IsExactly : Instr → Type 0
 IsExactly (instr.BrTable targets count otherwise) = Times IsU32 count targets.now (targets_in count targets.now)
-IsExactly (instr.Store width label bytes signed align offset) = signed ≡ false
+IsExactly (instr.Load width label bytes signed align offset) = is_load width bytes signed ≡ true
+IsExactly (instr.Store width label bytes signed align offset) = (signed ≡ false) × (is_store width bytes ≡ true)
 IsExactly (instr.Const width label bits) = FitsWidth width bits
 IsExactly _ = Unit {0}
+
+-- the same of what an opcode's byte stands for
+abbrev pub IsListed : Form → Type 0
+IsListed (form.Access (access.Load width bytes signed)) = is_load width bytes signed ≡ true
+IsListed (form.Access (access.Store width bytes)) = is_store width bytes ≡ true
+IsListed _ = Unit {0}
+
+abbrev pub IsListedFirst : First → Type 0
+IsListedFirst Prefix = Unit {0}
+IsListedFirst (Direct f) = IsListed f
 
 -- the kinds of faults that one instruction has by itself
 abbrev pub IsInstrKind : CodeKind → Type 0

@@ -27,3 +27,8 @@ ops_of = map (λ p. p.op)
 abbrev pub Stand : List ℕ → ℕ → List Placed → Type 0
 Stand bytes at [] = drop at bytes ≡ []
 Stand bytes at (p ∷ ps) = (next : ℕ) × (p.at ≡ at) × (instr_in bytes at ≡ Ok (p.op, next)) × Stand bytes next ps
+
+-- a place that is reached in bytes
+pub record Reached : Type 0 where
+  pub bytes : List ℕ
+  pub place : ℕ

@@ -1,5 +1,5 @@
 -- The reader of opcodes on lists: the opcode at the front, or the first fault.
-use Rattle.std.specs.Prelude.{ℕ, ◌+◌, length, List, [], ◌∷◌, Option, Some, None, Result, nat_lt, if◌then◌else◌}
+use Rattle.std.specs.Prelude.{ℕ, ◌+◌, length, List, [], ◌∷◌, Option, Some, None, Result, Ok, Err, nat_lt, if◌then◌else◌}
 use Rattle.ctw_ops.specs.ValueType.{ValueType}
 use Rattle.ctw_ops.specs.declared.types.Label.{Label}
 use Rattle.ctw_ops.specs.declared.types.Label.TheVariants.{Public, Secret}
@@ -96,6 +96,11 @@ secret_at = by_table secret_form >>= immediate_at Secret
 abbrev pub behind_at : First → Reader (Op Label) CodeFault
 behind_at Prefix = secret_at
 behind_at (Direct form) = immediate_at Public form
+
+-- the same of a byte at a place, which may stand for nothing
+abbrev pub behind_byte_at : Result First CodeKind → ℕ → Reader (Op Label) CodeFault
+behind_byte_at (Ok first) place i = behind_at first i
+behind_byte_at (Err kind) place i = Err (fault kind place)
 
 -- the opcode at the front with what stands behind it
 unfoldable pub op_at : Reader (Op Label) CodeFault

@@ -4,6 +4,7 @@ use Rattle.ctw_ops.specs.declared.types.Label.{Label}
 use Rattle.ctw_ops.specs.declared.types.Label.TheVariants.{Public, Secret}
 use Rattle.ctw_ops.specs.declared.types.Width.{Width}
 use Rattle.ctw_ops.specs.declared.types.Width.TheVariants.{W32, W64}
+use Rattle.ctw_ops.specs.Limits.{most_nesting}
 use Rattle.ctw_ops.specs.Code as ops
 use Rattle.ctw_ops.specs.Code.{Leaf, Code, Stop, Then, Block, Loop, If, IfElse, Op, Plain, opcodes}
 use Rattle.ctw_leb.specs.Grammar.{Grammar, Just, OneOf, Items, ◌>>=◌}
@@ -97,6 +98,6 @@ height (Loop t body rest) = max (suc (height body)) (height rest)
 height (If t arm rest) = max (suc (height arm)) (height rest)
 height (IfElse t arm other rest) = max (suc (max (height arm) (height other))) (height rest)
 
--- a body whose blocks nest at most 4,096 deep
+-- a body whose blocks don't nest deeper than they may
 abbrev pub IsLimitedBody : Grammar (Code Label)
-IsLimitedBody text code = IsBody text code × (height code ≤ 4096)
+IsLimitedBody text code = IsBody text code × (height code ≤ most_nesting)

@@ -48,6 +48,7 @@ impl<'a> Body<'a> {
     /// The instruction that is spelled at a place, which isn't past the bytes, and the place behind it.
     ///
     /// Else the first fault from the left. It takes no memory.
+    #[inline(always)]
     pub fn instr_at(&self, at: usize) -> Result<(Instr<'a>, usize), CodeFault>
         requires { at ≤ length self.now }
         ensures instr { Gives (λ x. (op_of x.0, x.1)) result (instr_in self.now at) }

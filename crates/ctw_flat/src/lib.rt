@@ -9,6 +9,7 @@ pub mod laws;
 mod nesting;
 mod opcode;
 mod reading;
+mod walk;
 
 pub use blocks::{Block, BlockMap, build};
 pub use body::Body;
@@ -16,6 +17,4 @@ pub use fault::{BuildFault, CodeFault, CodeKind};
 pub use instr::Instr;
 pub use nesting::Nesting;
 pub use opcode::is_float_opcode;
-
-#[cfg(test)]
-mod tests;
+pub use walk::Walk;

@@ -35,6 +35,7 @@ fn opens_block(cursor: &Cursor) -> bool
 }
 
 /// Whether an instruction may stand where so much is open; and what is open behind it.
+#[inline(always)]
 fn shift(around: &mut Vec<bool>, instr: &Instr) -> Result<bool, AllocError>
     ensures allowed { IfOk result (λ r. r ≡ allows (reverse around.old.items) (op_of instr.now)) }
     ensures shifted { IfOk result (λ r. r ≡ true → reverse around.new.items ≡ opened_by (reverse around.old.items) (op_of instr.now)) }
@@ -121,11 +122,21 @@ impl Nesting {
         is_full(self.around.as_slice()) && opens_block(cursor)
     }
 
+    /// In front of a body again. `Err` where memory runs out.
+    pub fn restart(&mut self) -> Result<(), AllocError>
+        ensures { OnOk result (self.new ≡ own_body) }
+    {
+        self.around.clear();
+        self.around.push(false)?;
+        Ok(())
+    }
+
     /// Reads the next instruction of the body.
     ///
     /// `Unbalanced` where it may not stand there, `TooDeep` where it opens a block inside 4,096 others,
     /// and the faults of `Body::instr_at`; their places are offsets in the cursor's file. After an `Err`
     /// the cursor may stand anywhere, and reading can't go on.
+    #[inline(always)]
     pub fn step<'a>(&mut self, cursor: &mut Cursor<'a>) -> Result<Instr<'a>, BuildFault>
         ensures read { Nests op_of result self.old self.new cursor.new (step_at self.old cursor.old) }
         ensures exactly { IfOk result (λ i. IsExactly i) }

@@ -1,4 +1,8 @@
-ghost use Rattle.std.specs.Prelude.{◌≡◌};
+ghost use Rattle.std.specs.Prelude.{◌≡◌, true, Ok, IfOk, IfSome};
+ghost use Rattle.ctw_ops.specs.Forms.{is_load, is_store};
+ghost use Rattle.ctw_flat.specs.declared.opcode.First.TheVariants.{Direct};
+ghost use Rattle.ctw_flat.specs.declared.opcode.Form.TheVariants.{Numeric};
+ghost use Rattle.ctw_flat.specs.Instructions.{IsListed, IsListedFirst};
 ghost use Rattle.ctw_flat.specs.Opcodes.{is_float, control_form, variable_form, load_form, store_form, memory_form, labelling_form, form, opcode, secret_form, block_type, reserved};
 
 use crate::fault::CodeKind;
@@ -76,6 +80,7 @@ pub enum First {
 }
 
 /// Whether a byte is an opcode of floats of WebAssembly 1.0, which this profile has none of.
+#[inline(always)]
 #[tactic(auto, unfolding(crate::specs::Opcodes::is_float))]
 pub fn is_float_opcode(byte: u8) -> bool
     ensures { result ≡ is_float byte }
@@ -90,7 +95,8 @@ pub fn is_float_opcode(byte: u8) -> bool
 #[inline(always)]
 #[tactic(auto, unfolding(crate::specs::Opcodes::control_form))]
 fn control(byte: u8) -> Result<Form, CodeKind>
-    ensures { result ≡ control_form byte }
+    ensures form { result ≡ control_form byte }
+    ensures listed { IfOk result (λ f. IsListed f) }
 {
     match byte {
         0x00 => Ok(Form::Bare(Bare::Unreachable)),
@@ -114,7 +120,8 @@ fn control(byte: u8) -> Result<Form, CodeKind>
 #[inline(always)]
 #[tactic(auto, unfolding(crate::specs::Opcodes::variable_form))]
 fn variable(byte: u8) -> Result<Form, CodeKind>
-    ensures { result ≡ variable_form byte }
+    ensures form { result ≡ variable_form byte }
+    ensures listed { IfOk result (λ f. IsListed f) }
 {
     match byte {
         0x1A => Ok(Form::Bare(Bare::Drop)),
@@ -131,7 +138,9 @@ fn variable(byte: u8) -> Result<Form, CodeKind>
 /// A load.
 #[inline(always)]
 fn load(width: Width, bytes: u8, signed: bool) -> Form
-    ensures { result ≡ load_form width bytes signed }
+    requires { is_load width bytes signed ≡ true }
+    ensures form { result ≡ load_form width bytes signed }
+    ensures listed { IsListed result }
 {
     Form::Access(Access::Load {
         width,
@@ -143,7 +152,9 @@ fn load(width: Width, bytes: u8, signed: bool) -> Form
 /// A store.
 #[inline(always)]
 fn store(width: Width, bytes: u8) -> Form
-    ensures { result ≡ store_form width bytes }
+    requires { is_store width bytes ≡ true }
+    ensures form { result ≡ store_form width bytes }
+    ensures listed { IsListed result }
 {
     Form::Access(Access::Store { width, bytes })
 }
@@ -152,7 +163,8 @@ fn store(width: Width, bytes: u8) -> Form
 #[inline(always)]
 #[tactic(auto, unfolding(crate::specs::Opcodes::memory_form))]
 fn memory(byte: u8) -> Result<Form, CodeKind>
-    ensures { result ≡ memory_form byte }
+    ensures form { result ≡ memory_form byte }
+    ensures listed { IfOk result (λ f. IsListed f) }
 {
     match byte {
         0x28 => Ok(load(Width::W32, 4, false)),
@@ -186,7 +198,8 @@ fn memory(byte: u8) -> Result<Form, CodeKind>
 #[inline(always)]
 #[tactic(auto, unfolding(crate::specs::Opcodes::labelling_form))]
 fn labelling(byte: u8) -> Result<Form, CodeKind>
-    ensures { result ≡ labelling_form byte }
+    ensures form { result ≡ labelling_form byte }
+    ensures listed { IfOk result (λ f. IsListed f) }
 {
     match byte {
         0xE1 => Ok(Form::Bare(Bare::Classify(Width::W32))),
@@ -201,7 +214,8 @@ fn labelling(byte: u8) -> Result<Form, CodeKind>
 #[inline(always)]
 #[tactic(auto, unfolding(crate::specs::Opcodes::form))]
 pub fn form_of(byte: u8) -> Result<Form, CodeKind>
-    ensures { result ≡ form byte }
+    ensures form { result ≡ form byte }
+    ensures listed { IfOk result (λ f. IsListed f) }
 {
     if byte <= 0x11 {
         return control(byte);
@@ -225,7 +239,8 @@ pub fn form_of(byte: u8) -> Result<Form, CodeKind>
 #[inline(always)]
 #[tactic(auto, unfolding(crate::specs::Opcodes::opcode))]
 pub fn first_of(byte: u8) -> Result<First, CodeKind>
-    ensures { result ≡ opcode byte }
+    ensures first { result ≡ opcode byte }
+    ensures listed { IfOk result (λ first. IsListedFirst first) }
 {
     if byte == 0xE0 {
         return Ok(First::Prefix);
@@ -236,10 +251,23 @@ pub fn first_of(byte: u8) -> Result<First, CodeKind>
     }
 }
 
+/// The numeric operation of a byte that stands for one.
+#[inline(always)]
+#[tactic(auto, unfolding(crate::specs::Opcodes::opcode, crate::specs::Opcodes::form))]
+pub fn numeric_of(byte: u8) -> Option<NumOp>
+    ensures { IfSome result (λ op. opcode byte ≡ Ok (Direct (Numeric op))) }
+{
+    if byte <= 0x24 || byte == 0xE0 || is_float_opcode(byte) {
+        return None;
+    }
+    num_op(byte)
+}
+
 /// What the byte behind the prefix stands for.
 #[tactic(auto, unfolding(crate::specs::Opcodes::secret_form))]
 pub fn secret_form_of(byte: u8) -> Result<Form, CodeKind>
-    ensures { result ≡ secret_form byte }
+    ensures form { result ≡ secret_form byte }
+    ensures listed { IfOk result (λ f. IsListed f) }
 {
     match form_of(byte) {
         Ok(form) => match form {

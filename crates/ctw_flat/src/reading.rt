@@ -3,14 +3,17 @@ ghost use Rattle.ctw_leb.specs.Grammar.{Times};
 ghost use Rattle.ctw_leb.specs.Numbers.{IsU32};
 ghost use Rattle.ctw_leb.specs.Calls.{Finds};
 ghost use Rattle.ctw_flat.specs.Spelled.{bare_op, shape_of, indexed_leaf, access_leaf};
-ghost use Rattle.ctw_flat.specs.Read.{of_leb, small_in, block_type_at, reserved_at, index_at, indexes_at, bits32_at, bits64_at, branch_table_at, access_at, constant_at, immediate_at, secret_at, behind_at, op_at};
-ghost use Rattle.ctw_flat.specs.Instructions.{op_of, targets_in, IsExactly};
+ghost use Rattle.ctw_flat.specs.Read.{of_leb, small_in, block_type_at, reserved_at, index_at, indexes_at, bits32_at, bits64_at, branch_table_at, access_at, constant_at, immediate_at, secret_at, behind_at, op_at, behind_byte_at};
+ghost use Rattle.ctw_flat.specs.Instructions.{op_of, targets_in, IsExactly, IsListed, IsListedFirst};
 ghost use Rattle.ctw_ops.specs.Code.{Plain, Opens, Numeric};
+ghost use Rattle.ctw_ops.specs.declared.types.Label.TheVariants.{Public};
+ghost use Rattle.ctw_flat.specs.Opcodes.{opcode};
+ghost use Rattle.ctw_flat.specs.declared.opcode.Form.TheVariants as form;
 
 use crate::fault::{CodeFault, CodeKind};
 use crate::instr::Instr;
 use crate::opcode::{
-    Access, Bare, First, Form, Indexed, Opener, block_type_of, first_of, reserved_of,
+    Access, Bare, First, Form, Indexed, Opener, block_type_of, first_of, numeric_of, reserved_of,
     secret_form_of,
 };
 use ctw_leb::{Cursor, LebFault};
@@ -130,6 +133,7 @@ fn bits64(cursor: &mut Cursor) -> Result<u64, CodeFault>
 }
 
 /// The bytes of the targets of a branch table.
+#[inline(never)]
 fn targets<'a>(cursor: &mut Cursor<'a>, count: u32) -> Result<&'a [u8], CodeFault>
     ensures targets { Finds (λ bytes. targets_in count bytes.now) result cursor.new (indexes_at count cursor.old) }
     ensures exactly { IfOk result (λ bytes. Times IsU32 count bytes.now (targets_in count bytes.now)) }
@@ -143,7 +147,7 @@ fn targets<'a>(cursor: &mut Cursor<'a>, count: u32) -> Result<&'a [u8], CodeFaul
 }
 
 /// What stands behind the opcode of a branch table.
-#[inline(never)]
+#[inline(always)]
 #[tactic(auto, unfolding(crate::specs::Read::branch_table_at))]
 fn branch_table<'a>(cursor: &mut Cursor<'a>) -> Result<Instr<'a>, CodeFault>
     ensures instr { Finds op_of result cursor.new (branch_table_at cursor.old) }
@@ -160,8 +164,10 @@ fn branch_table<'a>(cursor: &mut Cursor<'a>) -> Result<Instr<'a>, CodeFault>
 }
 
 /// What stands behind the opcode of a load or a store.
+#[inline(always)]
 #[tactic(auto, unfolding(crate::specs::Read::access_at))]
 fn access<'a>(cursor: &mut Cursor, label: Label, access: Access) -> Result<Instr<'a>, CodeFault>
+    requires { IsListed (form.Access access) }
     ensures instr { Finds op_of result cursor.new (access_at label access cursor.old) }
     ensures exactly { IfOk result (λ i. IsExactly i) }
 {
@@ -241,6 +247,7 @@ fn indexed_instr<'a>(indexed: Indexed, index: u32) -> Instr<'a>
 }
 
 /// What stands behind the opcode of a constant.
+#[inline(always)]
 #[tactic(auto, unfolding(crate::specs::Read::constant_at))]
 fn constant<'a>(cursor: &mut Cursor, label: Label, width: Width) -> Result<Instr<'a>, CodeFault>
     ensures instr { Finds op_of result cursor.new (constant_at label width cursor.old) }
@@ -271,6 +278,7 @@ fn numeric_instr<'a>(op: NumOp, label: Label) -> Instr<'a>
 #[inline(always)]
 #[tactic(auto, unfolding(crate::specs::Read::immediate_at))]
 fn immediate<'a>(cursor: &mut Cursor<'a>, label: Label, form: Form) -> Result<Instr<'a>, CodeFault>
+    requires { IsListed form }
     ensures instr { Finds op_of result cursor.new (immediate_at label form cursor.old) }
     ensures exactly { IfOk result (λ i. IsExactly i) }
 {
@@ -306,7 +314,7 @@ fn immediate<'a>(cursor: &mut Cursor<'a>, label: Label, form: Form) -> Result<In
 }
 
 /// The instruction behind a prefix.
-#[inline(never)]
+#[inline(always)]
 #[tactic(auto, using(crate::proofs::Rows::secret_ok, crate::proofs::Rows::secret_bad, crate::proofs::Rows::secret_short))]
 fn secret<'a>(cursor: &mut Cursor<'a>) -> Result<Instr<'a>, CodeFault>
     ensures instr { Finds op_of result cursor.new (secret_at cursor.old) }
@@ -328,6 +336,7 @@ fn secret<'a>(cursor: &mut Cursor<'a>) -> Result<Instr<'a>, CodeFault>
 /// What stands behind the first byte.
 #[inline(always)]
 fn behind<'a>(cursor: &mut Cursor<'a>, first: First) -> Result<Instr<'a>, CodeFault>
+    requires { IsListedFirst first }
     ensures instr { Finds op_of result cursor.new (behind_at first cursor.old) }
     ensures exactly { IfOk result (λ i. IsExactly i) }
 {
@@ -337,19 +346,83 @@ fn behind<'a>(cursor: &mut Cursor<'a>, first: First) -> Result<Instr<'a>, CodeFa
     }
 }
 
+/// An instruction with one index behind its opcode.
+#[inline(always)]
+#[tactic(auto, unfolding(crate::specs::Read::immediate_at))]
+fn indexed<'a>(cursor: &mut Cursor<'a>, what: Indexed) -> Result<Instr<'a>, CodeFault>
+    ensures instr { Finds op_of result cursor.new (immediate_at Public (form.Indexed what) cursor.old) }
+    ensures exactly { IfOk result (λ i. IsExactly i) }
+{
+    let n = index(cursor)?;
+    Ok(indexed_instr(what, n))
+}
+
+/// An instruction that opens a block, behind its opcode.
+#[inline(always)]
+#[tactic(auto, unfolding(crate::specs::Read::immediate_at))]
+fn opening<'a>(cursor: &mut Cursor<'a>, opener: Opener) -> Result<Instr<'a>, CodeFault>
+    ensures instr { Finds op_of result cursor.new (immediate_at Public (form.Opens opener) cursor.old) }
+    ensures exactly { IfOk result (λ i. IsExactly i) }
+{
+    let yielded = block_type(cursor)?;
+    Ok(opening_instr(opener, yielded))
+}
+
+/// What stands behind any first byte.
+#[inline(always)]
+fn behind_any<'a>(cursor: &mut Cursor<'a>, byte: u8, place: u32) -> Result<Instr<'a>, CodeFault>
+    ensures instr { Finds op_of result cursor.new (behind_byte_at (opcode byte) place cursor.old) }
+    ensures exactly { IfOk result (λ i. IsExactly i) }
+{
+    match first_of(byte) {
+        Ok(first) => behind(cursor, first),
+        Err(kind) => Err(CodeFault { kind, place }),
+    }
+}
+
+/// The same; the most common bytes take the shortest way.
+#[inline(always)]
+#[tactic(auto, unfolding(crate::specs::Opcodes::opcode, crate::specs::Opcodes::form, crate::specs::Opcodes::control_form, crate::specs::Opcodes::variable_form, crate::specs::Opcodes::memory_form, crate::specs::Opcodes::is_float, ctw_ops::specs::Numeric::is_numeric, crate::specs::Read::immediate_at))]
+fn behind_byte<'a>(cursor: &mut Cursor<'a>, byte: u8, place: u32) -> Result<Instr<'a>, CodeFault>
+    ensures instr { Finds op_of result cursor.new (behind_byte_at (opcode byte) place cursor.old) }
+    ensures exactly { IfOk result (λ i. IsExactly i) }
+{
+    match byte {
+        0x02 => opening(cursor, Opener::Block),
+        0x03 => opening(cursor, Opener::Loop),
+        0x04 => opening(cursor, Opener::If),
+        0x05 => Ok(bare_instr(Bare::Else)),
+        0x0B => Ok(bare_instr(Bare::End)),
+        0x0C => indexed(cursor, Indexed::Br),
+        0x0D => indexed(cursor, Indexed::BrIf),
+        0x0F => Ok(bare_instr(Bare::Return)),
+        0x10 => indexed(cursor, Indexed::Call),
+        0x1A => Ok(bare_instr(Bare::Drop)),
+        0x20 => indexed(cursor, Indexed::LocalGet),
+        0x21 => indexed(cursor, Indexed::LocalSet),
+        0x22 => indexed(cursor, Indexed::LocalTee),
+        0x23 => indexed(cursor, Indexed::GlobalGet),
+        0x24 => indexed(cursor, Indexed::GlobalSet),
+        0x41 => constant(cursor, Label::Public, Width::W32),
+        0x42 => constant(cursor, Label::Public, Width::W64),
+        0x45..=0x5A | 0x67..=0x8A | 0xA7 | 0xAC | 0xAD | 0xC0..=0xC4 => match numeric_of(byte) {
+            Some(op) => Ok(numeric_instr(op, Label::Public)),
+            None => behind_any(cursor, byte, place),
+        },
+        _ => behind_any(cursor, byte, place),
+    }
+}
+
 /// The instruction at the cursor. After a fault the cursor may stand anywhere.
 #[inline(always)]
-#[tactic(auto, using(crate::proofs::Rows::op_ok, crate::proofs::Rows::op_bad, crate::proofs::Rows::op_short))]
+#[tactic(auto, using(crate::proofs::Rows::op_behind, crate::proofs::Rows::op_short))]
 pub fn read_instr<'a>(cursor: &mut Cursor<'a>) -> Result<Instr<'a>, CodeFault>
     ensures instr { Finds op_of result cursor.new (op_at cursor.old) }
     ensures exactly { IfOk result (λ i. IsExactly i) }
 {
     let place = cursor.place();
     match cursor.byte() {
-        Ok(byte) => match first_of(byte) {
-            Ok(first) => behind(cursor, first),
-            Err(kind) => Err(CodeFault { kind, place }),
-        },
+        Ok(byte) => behind_byte(cursor, byte, place),
         Err(_) => Err(CodeFault {
             kind: CodeKind::Truncated,
             place,

@@ -4,8 +4,6 @@
 mod graph;
 mod path;
 mod search;
-#[cfg(test)]
-mod tests;
 
 pub use graph::{Edge, Graph};
 pub use path::{Marked, Path};

@@ -13,8 +13,6 @@ mod plan;
 mod shelves;
 mod sinks;
 mod system;
-#[cfg(test)]
-mod tests;
 
 pub use shelves::{MemShelf, SureShelf};
 pub use sinks::{MemSink, SureSink};

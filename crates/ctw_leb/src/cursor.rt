@@ -5,7 +5,7 @@ ghost use Rattle.ctw_leb.specs.Readers.{ending, number_at, placed, byte_at, byte
 ghost use Rattle.ctw_leb.specs.Calls.{Reads, ReadsAs, Finds, ReadsNumber, ReadsName};
 
 use crate::fault::{Cause, LebFault};
-use crate::number::number;
+use crate::number::front_number;
 use std::marker::Model;
 
 /// A position in a lent slice of a file.
@@ -161,12 +161,13 @@ impl<'a> Cursor<'a> {
     }
 
     /// Reads a number below twice `half`, signed or not, by its bits.
+    #[inline(always)]
     fn number(&mut self, half: u64, signed: bool) -> Result<u64, LebFault>
         requires { half ≤ 2 ^ 63 }
         ensures read { Reads result self.old self.new (placed self.old (number_at (ending signed) half self.old.rest)) }
         ensures below { IfOk result (λ n. n < 2 * half) }
     {
-        match number(self.rest, half, signed) {
+        match front_number(self.rest, half, signed) {
             Ok((n, rest)) => {
                 self.place += (self.rest.len() - rest.len()) as u32;
                 self.rest = rest;
@@ -179,6 +180,7 @@ impl<'a> Cursor<'a> {
 
     /// Reads an unsigned number; most have one byte.
     #[tactic(auto, unfolding(crate::specs::Readers::number_at))]
+    #[inline(always)]
     fn unsigned32(&mut self) -> Result<u32, LebFault>
         ensures { Reads result self.old self.new (u32_at self.old) }
     {
@@ -197,6 +199,7 @@ impl<'a> Cursor<'a> {
 
     /// Reads a signed number; most have one byte.
     #[tactic(auto, unfolding(crate::specs::Readers::number_at))]
+    #[inline(always)]
     fn signed32(&mut self) -> Result<i32, LebFault>
         ensures { ReadsAs (cast_unsigned w32) result self.old self.new (s32_at self.old) }
     {
@@ -215,6 +218,7 @@ impl<'a> Cursor<'a> {
 
     /// Reads a signed number; most have one byte.
     #[tactic(auto, unfolding(crate::specs::Readers::number_at))]
+    #[inline(always)]
     fn signed64(&mut self) -> Result<i64, LebFault>
         ensures { ReadsAs (cast_unsigned w64) result self.old self.new (s64_at self.old) }
     {

@@ -9,6 +9,3 @@ mod writing;
 pub use cursor::Cursor;
 pub use fault::LebFault;
 pub use writing::{put_s64, put_u32};
-
-#[cfg(test)]
-mod tests;

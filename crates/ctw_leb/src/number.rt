@@ -4,9 +4,94 @@ ghost use Rattle.ctw_leb.specs.Calls.{Gives};
 
 use crate::fault::Cause;
 
+/// The number at the front, below twice `half`, and the bytes behind it. Most have up to three bytes, which are read without a call.
+#[inline(always)]
 #[tactic(auto, unfolding(crate::specs::Readers::number_at))]
-/// The number at the front, below twice `half`, and the bytes behind it.
-pub fn number(bytes: &[u8], half: u64, signed: bool) -> Result<(u64, &[u8]), Cause>
+pub fn front_number(bytes: &[u8], half: u64, signed: bool) -> Result<(u64, &[u8]), Cause>
+    requires { half ≤ 2 ^ 63 }
+    ensures value { Gives (λ x. (x.0, x.1.now)) result (number_at (ending signed) half bytes.now) }
+    ensures length { IfOk result (λ x. length x.1.now ≤ length bytes.now) }
+    ensures below { IfOk result (λ x. x.0 < 2 * half) }
+{
+    match bytes {
+        [] => Err(Cause::Short),
+        [byte, rest @ ..] => {
+            let byte = u64::from(*byte);
+            if byte < 128 {
+                match last(byte, half, signed) {
+                    Some(n) => Ok((n, rest)),
+                    None => Err(Cause::Illegal),
+                }
+            } else if half < 128 {
+                Err(Cause::Illegal)
+            } else {
+                let (above, rest) = second_number(rest, half / 128, signed)?;
+                Ok((byte - 128 + 128 * above, rest))
+            }
+        }
+    }
+}
+
+/// The same from the second byte on.
+#[inline(always)]
+#[tactic(auto, unfolding(crate::specs::Readers::number_at))]
+fn second_number(bytes: &[u8], half: u64, signed: bool) -> Result<(u64, &[u8]), Cause>
+    requires { half ≤ 2 ^ 63 }
+    ensures value { Gives (λ x. (x.0, x.1.now)) result (number_at (ending signed) half bytes.now) }
+    ensures length { IfOk result (λ x. length x.1.now ≤ length bytes.now) }
+    ensures below { IfOk result (λ x. x.0 < 2 * half) }
+{
+    match bytes {
+        [] => Err(Cause::Short),
+        [byte, rest @ ..] => {
+            let byte = u64::from(*byte);
+            if byte < 128 {
+                match last(byte, half, signed) {
+                    Some(n) => Ok((n, rest)),
+                    None => Err(Cause::Illegal),
+                }
+            } else if half < 128 {
+                Err(Cause::Illegal)
+            } else {
+                let (above, rest) = third_number(rest, half / 128, signed)?;
+                Ok((byte - 128 + 128 * above, rest))
+            }
+        }
+    }
+}
+
+/// The same from the third byte on.
+#[inline(always)]
+#[tactic(auto, unfolding(crate::specs::Readers::number_at))]
+fn third_number(bytes: &[u8], half: u64, signed: bool) -> Result<(u64, &[u8]), Cause>
+    requires { half ≤ 2 ^ 63 }
+    ensures value { Gives (λ x. (x.0, x.1.now)) result (number_at (ending signed) half bytes.now) }
+    ensures length { IfOk result (λ x. length x.1.now ≤ length bytes.now) }
+    ensures below { IfOk result (λ x. x.0 < 2 * half) }
+{
+    match bytes {
+        [] => Err(Cause::Short),
+        [byte, rest @ ..] => {
+            let byte = u64::from(*byte);
+            if byte < 128 {
+                match last(byte, half, signed) {
+                    Some(n) => Ok((n, rest)),
+                    None => Err(Cause::Illegal),
+                }
+            } else if half < 128 {
+                Err(Cause::Illegal)
+            } else {
+                let (above, rest) = number(rest, half / 128, signed)?;
+                Ok((byte - 128 + 128 * above, rest))
+            }
+        }
+    }
+}
+
+/// The same of a number of any length.
+#[inline(never)]
+#[tactic(auto, unfolding(crate::specs::Readers::number_at))]
+fn number(bytes: &[u8], half: u64, signed: bool) -> Result<(u64, &[u8]), Cause>
     requires { half ≤ 2 ^ 63 }
     ensures value { Gives (λ x. (x.0, x.1.now)) result (number_at (ending signed) half bytes.now) }
     ensures length { IfOk result (λ x. length x.1.now ≤ length bytes.now) }
@@ -32,6 +117,7 @@ pub fn number(bytes: &[u8], half: u64, signed: bool) -> Result<(u64, &[u8]), Cau
 }
 
 /// What the last byte stands for.
+#[inline(always)]
 fn last(byte: u64, half: u64, signed: bool) -> Option<u64>
     requires byte { byte < 128 }
     requires half { half ≤ 2 ^ 63 }

@@ -9,3 +9,4 @@ pub mod Slices
 pub mod Told
 pub mod Steps
 pub mod Ends
+pub mod NumberLaws

@@ -10,3 +10,5 @@ pub mod Tokens
 pub mod Grammar
 pub mod Faults
 pub mod Answers
+pub mod NumberForms
+pub mod NumberValues

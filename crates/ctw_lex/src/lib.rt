@@ -13,13 +13,13 @@ mod bytes;
 mod escapes;
 mod items;
 mod list;
+mod numbers;
 mod strings;
-#[cfg(test)]
-mod tests;
 
 use crate::items::{Item, item_at, line_after};
 use crate::list::Span;
 pub use crate::list::{Token, TokenList};
+pub use crate::numbers::{Magnitude, SignedNumber, number, signed_number};
 use crate::strings::unescaped;
 use std::alloc::{AllocError, AllocFailed, Global};
 

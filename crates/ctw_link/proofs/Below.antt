@@ -51,7 +51,7 @@ meets_tag (external.Memory got) (external.Memory want) h = refl
 meets_tag (external.Global got) (external.Global want) h = refl
 meets_tag _ _ h = absurd h
 
-mapped_some : {A B : Type 0} (f : A → B) (o : Option A) (b : B) → option_map f o ≡ Some b → (a : A) × (o ≡ Some a) × (f a ≡ b)
+pub mapped_some : {A B : Type 0} (f : A → B) (o : Option A) (b : B) → option_map f o ≡ Some b → (a : A) × (o ≡ Some a) × (f a ≡ b)
 mapped_some f None b e = absurd cc
 mapped_some f (Some a) b e = (a, refl, cc)
 
@@ -85,7 +85,7 @@ Below t high q = All (λ n. n < high) (numbers_of t q.numbers)
 abbrev pub AreBelow : ExternTag → List LinkedModule → Type 0
 AreBelow t l = All (Below t (defined_before t l)) l
 
-found_all : {A : Type 0} (P : A → Type 0) (test : A → Bool) (l : List A) (a : A) → All P l → find test l ≡ Some a → P a
+pub found_all : {A : Type 0} (P : A → Type 0) (test : A → Bool) (l : List A) (a : A) → All P l → find test l ≡ Some a → P a
 found_all P test [] a h e = absurd cc
 found_all {A = A} P test (b ∷ l) a h e = go (test b) (λ q. found_all P test l a (All-tail P b l h) q) e
   where
@@ -93,7 +93,7 @@ found_all {A = A} P test (b ∷ l) a h e = go (test b) (λ q. found_all P test l
     go true again q = subst P (same_Some b a q) (All-head P b l h)
     go false again q = again q
 
-find_bare : (name : List ℕ) (l : List LinkedModule) → find (has_name name) (map bare l) ≡ option_map bare (find (is_named name) l)
+pub find_bare : (name : List ℕ) (l : List LinkedModule) → find (has_name name) (map bare l) ≡ option_map bare (find (is_named name) l)
 find_bare name [] = refl
 find_bare name (q ∷ l) = go (bytes_eq q.name name) (find_bare name l)
   where

@@ -13,7 +13,7 @@ use Rattle.ctw_ops.specs.Types.{MemoryType}
 use Rattle.ctw_ops.specs.Tree.{Module, Function, Global, Extern, ImportedFunction, ImportedTable, ImportedMemory, ImportedGlobal, Import, with_function, with_global, or_table, or_memory, imported_functions, imported_globals, table_among, memory_among, function_entries, global_types}
 use Rattle.ctw_ops.specs.Typing.{optional}
 use Rattle.ctw_ops.specs.Valid.{IsExported}
-use Rattle.ctw_module.specs.Once.{with_table, with_memory, imported_tables, imported_memories, all_tables, all_memories}
+use Rattle.ctw_ops.specs.Once.{with_table, with_memory, imported_tables, imported_memories, all_tables, all_memories}
 use Rattle.ctw_link.specs.Sets.{one_or_none, defined_in}
 use Rattle.ctw_link.specs.Numbers.{LinkedModule, numbers_behind, number_if, defined_before, tag_of, same_tag, import_number}
 use Rattle.ctw_link.proofs.ValidParts.{there}

@@ -6,6 +6,7 @@ use Rattle.ctw_ops.specs.declared.types.Width.TheVariants.{W32}
 use Rattle.ctw_ops.specs.declared.types.Trust.TheVariants.{Untrusted}
 use Rattle.ctw_ops.specs.declared.types.Limits.{Limits}
 use Rattle.ctw_ops.specs.declared.types.ExternTag.TheVariants.{Func, Table}
+use Rattle.ctw_ops.specs.declared.numeric.Profile.TheVariants.{Divide}
 use Rattle.ctw_ops.specs.Types.{FunctionType, MemoryType, value_type}
 use Rattle.ctw_ops.specs.Code.{Code, Stop, Then, CallIndirect}
 use Rattle.ctw_ops.specs.Tree.{Module, TypeEntry, Import, Function, Export, Element, Number, Extern, ImportedFunction, ImportedTable}
@@ -13,7 +14,7 @@ use Rattle.ctw_module.specs.declared.types.ExternKind.TheVariants as external
 use Rattle.ctw_link.specs.declared.fault.LinkFault.TheVariants.{NoImport, ImportType, TableMix, DoubleName}
 use Rattle.ctw_link.specs.Sets.{NamedModule}
 use Rattle.ctw_link.specs.Numbers.{number_in, owners}
-use Rattle.ctw_link.specs.Matching.{most_pages, most_entries}
+use Rattle.ctw_ops.specs.Limits.{most_set_pages, most_set_entries}
 use Rattle.ctw_link.specs.Faults.{set_fault}
 
 abbrev takes : Label → FunctionType Label
@@ -29,6 +30,7 @@ sized n = record { min = n; max = None }
 abbrev module_of : Label → List (Import Label) → List (Function Label) → Option Limits → Option (MemoryType Label) → List Export → List (Element Label) → Module Label
 module_of l imports functions table memory exports elements = record {
   ct = true;
+  profile = Divide;
   types = entry l ∷ [];
   imports = imports;
   functions = functions;
@@ -63,19 +65,19 @@ abbrev importer : Label → NamedModule
 importer l = named 98 (module_of l (imported 97 103 (ImportedFunction 0) ∷ []) (function Stop ∷ function Stop ∷ []) None None [] [])
 
 another_label : set_fault (exporter ∷ importer Public ∷ []) ≡ Some (ImportType 1 0 (external.Func 0 (takes Public)) (external.Func 0 (takes Secret)))
-unfolding set_fault most_pages most_entries
+unfolding set_fault most_set_pages most_set_entries
 another_label = refl
 
 same_label : set_fault (exporter ∷ importer Secret ∷ []) ≡ None
-unfolding set_fault most_pages most_entries
+unfolding set_fault most_set_pages most_set_entries
 same_label = refl
 
 a_later_part : set_fault (importer Public ∷ exporter ∷ []) ≡ Some (NoImport 0 0)
-unfolding set_fault most_pages most_entries
+unfolding set_fault most_set_pages most_set_entries
 a_later_part = refl
 
 one_name : set_fault (exporter ∷ exporter ∷ []) ≡ Some (DoubleName 1)
-unfolding set_fault most_pages most_entries
+unfolding set_fault most_set_pages most_set_entries
 one_name = refl
 
 -- functions are numbered part by part, and an import has the exporter's number
@@ -98,9 +100,9 @@ abbrev caller : List (Import Label) → Option Limits → NamedModule
 caller imports table = named 98 (module_of Public imports (function (Then (CallIndirect 0) Stop) ∷ []) table None [] [])
 
 mixed_labels : set_fault (holder ∷ caller (imported 97 116 (ImportedTable (sized 0)) ∷ []) None ∷ []) ≡ Some (TableMix 0 (takes Secret) (takes Public))
-unfolding set_fault most_pages most_entries
+unfolding set_fault most_set_pages most_set_entries
 mixed_labels = refl
 
 two_tables : set_fault (holder ∷ caller [] (Some (sized 1)) ∷ []) ≡ None
-unfolding set_fault most_pages most_entries
+unfolding set_fault most_set_pages most_set_entries
 two_tables = refl

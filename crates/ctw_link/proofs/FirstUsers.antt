@@ -14,12 +14,12 @@ use Rattle.std.proofs.lemmas.List.Folds.{find-append}
 use Rattle.std.proofs.lemmas.Option.{same_Some, none-some}
 use Rattle.ctw_ops.specs.declared.types.Label.{Label}
 use Rattle.ctw_ops.specs.Types.{FunctionType}
-use Rattle.ctw_ops.specs.Equal.{same_function_type}
+use Rattle.ctw_ops.specs.Equal.{same_function_type, erases_alike}
 use Rattle.ctw_link.specs.declared.fault.LinkFault.TheVariants.{TableMix}
 use Rattle.ctw_link.specs.declared.set.Part.{Part}
-use Rattle.ctw_link.specs.Users.{erases_alike, differing, or_later, mix_behind}
+use Rattle.ctw_link.specs.Users.{differing, or_later, mix_behind}
 use Rattle.ctw_link.specs.Firsts.{key_of, type_in, HasEntry, IsTypeOf, TellsFirsts, Passes}
-use Rattle.ctw_link.proofs.TypeTests.{same_function_type_is}
+use Rattle.ctw_ops.proofs.EqualLaws.{same_function_type_is}
 use Rattle.ctw_link.proofs.TypeBytes.{same_key}
 use Rattle.ctw_link.proofs.Repeats.{used_again}
 

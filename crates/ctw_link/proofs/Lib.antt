@@ -1,4 +1,3 @@
-pub mod TypeTests
 pub mod Nones
 pub mod DistinctNames
 pub mod MetImports

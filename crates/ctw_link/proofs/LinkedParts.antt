@@ -11,7 +11,7 @@ use Rattle.ctw_ops.specs.declared.types.Limits.{Limits}
 use Rattle.ctw_ops.specs.declared.types.ExternTag.TheVariants as tag
 use Rattle.ctw_ops.specs.Types.{MemoryType, VariableType}
 use Rattle.ctw_ops.specs.Tree.{Extern, ImportedFunction, ImportedTable, ImportedMemory, ImportedGlobal, Import, with_function, with_global, or_memory, or_table, imported_functions, imported_globals, memory_among, table_among, function_entries, global_types}
-use Rattle.ctw_module.specs.Trees.{tree}
+use Rattle.ctw_module.specs.Trees.{view_module}
 use Rattle.ctw_link.specs.declared.set.Part.{Part}
 use Rattle.ctw_link.specs.Sets.{NamedModule, ModuleSet, part_in, set_of, one_or_none}
 use Rattle.ctw_link.specs.Numbers.{StoreNumbers, LinkedModule, tag_of, same_tag, number_if, import_number, defined_before, linked_module, with_linked, linked}
@@ -114,9 +114,9 @@ pub record LinkedAt (parts : List Part) (k : ℕ) (n : StoreNumbers) : Type 0 wh
   pub is : slice_get (linked (set_of parts)) k ≡ Some found
   pub has : found.numbers ≡ n
   pub counted : Counted found
-  pub same : (p : Part) → IsPart parts k p → found.tree ≡ tree p.«module»
+  pub same : (p : Part) → IsPart parts k p → found.tree ≡ view_module p.«module»
 
-same_tree : (parts : List Part) (k : ℕ) (q : LinkedModule) → slice_get (linked (set_of parts)) k ≡ Some q → (p : Part) → IsPart parts k p → q.tree ≡ tree p.«module»
+same_tree : (parts : List Part) (k : ℕ) (q : LinkedModule) → slice_get (linked (set_of parts)) k ≡ Some q → (p : Part) → IsPart parts k p → q.tree ≡ view_module p.«module»
 same_tree parts k q e p is =
     let set = set_of parts in
     let here : Some (bare q) ≡ Some (part_in p) =

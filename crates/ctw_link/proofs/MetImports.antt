@@ -12,7 +12,7 @@ use Rattle.ctw_link.specs.declared.fault.LinkFault.TheVariants.{ImportType}
 use Rattle.ctw_link.specs.Sets.{NamedModule, ModuleSet}
 use Rattle.ctw_link.specs.Externals.{wanted, offered_by, IsAtMost, MeetsLimits, Meets, IsMet}
 use Rattle.ctw_link.specs.Faults.{same_bool, at_most, meets_most, meets_limits, same_variable, meets, type_fault, import_fault, imports_fault_from, imports_fault}
-use Rattle.ctw_link.proofs.TypeTests.{same_label_is, same_label_when, same_type_is, same_type_when, same_function_type_is, same_function_type_when}
+use Rattle.ctw_ops.proofs.EqualLaws.{same_label_is, same_label_when, same_type_is, same_type_when, same_function_type_is, same_function_type_when}
 use Rattle.ctw_link.proofs.Nones.{NoneWhere, none_if, none_or, none_same, both_tests, le_test}
 
 -- ---- tests

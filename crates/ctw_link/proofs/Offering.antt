@@ -20,7 +20,7 @@ use Rattle.ctw_module.specs.declared.types.ExternKind.{ExternKind}
 use Rattle.ctw_module.specs.declared.types.ExternKind.TheVariants as external
 use Rattle.ctw_module.specs.Lookup.{export_in}
 use Rattle.ctw_module.specs.Given.{extern_given}
-use Rattle.ctw_module.specs.Trees.{tree}
+use Rattle.ctw_module.specs.Trees.{tree, view_module}
 use Rattle.ctw_link.specs.declared.set.Part.{Part}
 use Rattle.ctw_link.specs.Sets.{NamedModule, ModuleSet, part_in, set_of}
 use Rattle.ctw_link.specs.Linked.{CanBeLinked, IsValidPart}
@@ -133,7 +133,7 @@ known_names names name = get_by (λ key. slice_cmp nat_cmp name key.now) names
 -- what is known of a part whose index was told
 pub record At (parts : List Part) (before : ℕ) (i : Import Label) (j : ℕ) (d : Part) : Type 0 where
   pub within : j < length parts
-  pub valid : IsValid (tree (get_or parts j d).«module»)
+  pub valid : IsValid (view_module (get_or parts j d).«module»)
   pub found : Found (take before (set_of parts)) i j (part_in (get_or parts j d))
 
 pub within_parts : (parts : List Part) (names : BTreeMap (Bor (List ℕ)) ℕ) (before : ℕ) (name : List ℕ) (j : ℕ) → TellsParts parts names → Some j ≡ below before (known_names names name) → j < length parts

@@ -9,7 +9,7 @@ use Rattle.ctw_ops.specs.Tree.{Module, Extern, ImportedFunction, ImportedTable, 
 use Rattle.ctw_module.specs.declared.types.ExternKind.{ExternKind}
 use Rattle.ctw_module.specs.declared.types.ExternKind.TheVariants as kind
 use Rattle.ctw_module.specs.Given.{extern_given}
-use Rattle.ctw_module.specs.Once.{with_table, with_memory, imported_tables, imported_memories, all_tables, all_memories}
+use Rattle.ctw_ops.specs.Once.{with_table, with_memory, imported_tables, imported_memories, all_tables, all_memories}
 
 no_more : {A : Type 0} (l : List A) (o : Option A) → 1 ≤ length l → length (l ++ optional o) ≤ 1 → None ≡ o
 no_more l None some most = refl

@@ -7,7 +7,7 @@ use Rattle.ctw_link.specs.declared.fault.LinkFault.{LinkFault}
 use Rattle.ctw_link.specs.declared.set.Part.{Part}
 use Rattle.ctw_ops.specs.Tree.{Module, type_named}
 use Rattle.ctw_ops.specs.Valid.{IsValid}
-use Rattle.ctw_module.specs.Trees.{tree}
+use Rattle.ctw_module.specs.Trees.{tree, view_module}
 use Rattle.ctw_link.specs.Linked.{IsPart}
 use Rattle.ctw_link.specs.Users.{users_in, user_entries, first_uses, mix_behind}
 use Rattle.ctw_link.proofs.EntryBounds.{users_below}
@@ -71,9 +71,9 @@ same_map : {A B : Type 0} (f g : A → B) (l : List A) → ((a : A) → f a ≡ 
 same_map f g [] h = refl
 same_map f g (a ∷ l) h = ap₂ (λ x xs. x ∷ xs) (h a) (same_map f g l h)
 
-pub users_there : (parts : List Part) (part : ℕ) (p : Part) (entries : List ℕ) → IsPart parts part p → IsValid (tree p.«module») → entries ≡ first_uses (user_entries (tree p.«module»)) → All (HasEntry parts part) entries
+pub users_there : (parts : List Part) (part : ℕ) (p : Part) (entries : List ℕ) → IsPart parts part p → IsValid (view_module p.«module») → entries ≡ first_uses (user_entries (tree p.«module»)) → All (HasEntry parts part) entries
 users_there parts part p entries is v e =
-    let m = tree p.«module» in
+    let m = view_module p.«module» in
     subst (λ l. All (HasEntry parts part) l) (sym e)
     (All-weaker (λ entry. entry < length m.types) (HasEntry parts part) (λ entry lt. (p, is, lt)) (first_uses (user_entries m)) (uses_below (length m.types) (user_entries m) (users_below m v)))
 

@@ -9,10 +9,10 @@ use Rattle.std.proofs.lemmas.List.Elements.{All-head, All-tail, All-push, All-ni
 use Rattle.std.proofs.lemmas.Option.{same_Some, none-some}
 use Rattle.ctw_ops.specs.declared.types.Label.{Label}
 use Rattle.ctw_ops.specs.Types.{FunctionType}
-use Rattle.ctw_ops.specs.Equal.{same_function_type}
-use Rattle.ctw_link.specs.Users.{erases_alike, differing, or_later, mix_behind, with_entry, first_uses}
+use Rattle.ctw_ops.specs.Equal.{same_function_type, erases_alike}
+use Rattle.ctw_link.specs.Users.{differing, or_later, mix_behind, with_entry, first_uses}
 use Rattle.ctw_link.specs.Marks.{AllBelow}
-use Rattle.ctw_link.proofs.TypeTests.{same_function_type_is, same_function_type_refl, alike_refl}
+use Rattle.ctw_ops.proofs.EqualLaws.{same_function_type_is, same_function_type_refl, alike_refl}
 
 -- ---- entries that are not found yet
 

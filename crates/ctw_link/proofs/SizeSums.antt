@@ -5,12 +5,14 @@ use Rattle.std.proofs.lemmas.List.{get_or-map, length-map, take_all}
 use Rattle.std.proofs.lemmas.List.Sums.{sum_by_more}
 use Rattle.ctw_ops.specs.declared.types.Label.{Label}
 use Rattle.ctw_ops.specs.Types.{MemoryType}
-use Rattle.ctw_ops.specs.Valid.{IsMemory, most_pages as most_pages_of_one}
+use Rattle.ctw_ops.specs.Valid.{IsMemory}
+use Rattle.ctw_ops.specs.Limits.{most_memory_pages}
 use Rattle.ctw_link.specs.declared.fault.LinkFault.{LinkFault}
 use Rattle.ctw_link.specs.declared.fault.LinkFault.TheVariants.{TooManyPages, TooManyEntries}
 use Rattle.ctw_link.specs.declared.set.Part.{Part}
 use Rattle.ctw_link.specs.Sets.{NamedModule, ModuleSet, part_in, set_of}
-use Rattle.ctw_link.specs.Matching.{pages, entries, most_pages, most_entries}
+use Rattle.ctw_ops.specs.Limits.{most_set_pages, most_set_entries}
+use Rattle.ctw_link.specs.Matching.{pages, entries}
 use Rattle.ctw_link.specs.Faults.{pages_fault, entries_fault}
 
 -- the sizes of the first k parts, each of which is at most this, have this sum
@@ -41,7 +43,7 @@ summed_all size most parts k sum le s = s.is ∙ ap (sum_by size) (take_all k (s
 -- ---- the size of a memory
 
 pub few_pages : (o : Option (MemoryType Label)) (type : MemoryType Label) → IfSome o IsMemory → o ≡ Some type → type.limits.min ≤ 65536
-unfolding most_pages_of_one
+unfolding most_memory_pages
 few_pages o type h e = let m : IsMemory type = subst (λ (x : Option (MemoryType Label)). IfSome x IsMemory) e h in m.1
 
 -- ---- the faults
@@ -57,17 +59,17 @@ over_some n most fault lt = by (nat_le n most) refl
     by false e = refl
 
 pub pages_none : (set : ModuleSet) (n : ℕ) → n ≡ pages set → n ≤ 4096 → pages_fault set ≡ None
-unfolding most_pages
-pages_none set n e le = within_none (pages set) most_pages (TooManyPages (pages set)) (omega (arith, e, le))
+unfolding most_set_pages
+pages_none set n e le = within_none (pages set) most_set_pages (TooManyPages (pages set)) (omega (arith, e, le))
 
 pub pages_some : (set : ModuleSet) (n : ℕ) → n ≡ pages set → 4096 < n → pages_fault set ≡ Some (TooManyPages n)
-unfolding most_pages
-pages_some set n e lt = over_some (pages set) most_pages (TooManyPages (pages set)) (omega (arith, e, lt)) ∙ ap (λ (k : ℕ). Some (TooManyPages k)) (sym e)
+unfolding most_set_pages
+pages_some set n e lt = over_some (pages set) most_set_pages (TooManyPages (pages set)) (omega (arith, e, lt)) ∙ ap (λ (k : ℕ). Some (TooManyPages k)) (sym e)
 
 pub entries_none : (set : ModuleSet) (n : ℕ) → n ≡ entries set → n ≤ 1000000 → entries_fault set ≡ None
-unfolding most_entries
-entries_none set n e le = within_none (entries set) most_entries (TooManyEntries (entries set)) (omega (arith, e, le))
+unfolding most_set_entries
+entries_none set n e le = within_none (entries set) most_set_entries (TooManyEntries (entries set)) (omega (arith, e, le))
 
 pub entries_some : (set : ModuleSet) (n : ℕ) → n ≡ entries set → 1000000 < n → entries_fault set ≡ Some (TooManyEntries n)
-unfolding most_entries
-entries_some set n e lt = over_some (entries set) most_entries (TooManyEntries (entries set)) (omega (arith, e, lt)) ∙ ap (λ (k : ℕ). Some (TooManyEntries k)) (sym e)
+unfolding most_set_entries
+entries_some set n e lt = over_some (entries set) most_set_entries (TooManyEntries (entries set)) (omega (arith, e, lt)) ∙ ap (λ (k : ℕ). Some (TooManyEntries k)) (sym e)

@@ -4,7 +4,7 @@ use Rattle.std.proofs.lemmas.List.{append_assoc, append-nil, length-map, map-app
 use Rattle.std.proofs.lemmas.Option.{slice_get-map, get_or_from_slice_get, same_Some}
 use Rattle.ctw_ops.specs.declared.types.Label.{Label}
 use Rattle.ctw_ops.specs.Types.{FunctionType}
-use Rattle.ctw_module.specs.Trees.{tree}
+use Rattle.ctw_module.specs.Trees.{tree, view_module}
 use Rattle.ctw_link.specs.declared.fault.LinkFault.{LinkFault}
 use Rattle.ctw_link.specs.declared.fault.LinkFault.TheVariants.{NoMemory}
 use Rattle.ctw_link.specs.declared.set.Part.{Part}
@@ -38,7 +38,7 @@ pub record LinkedAt (parts : List Part) (i : ℕ) (numbers : StoreNumbers) : Typ
   pub is_part : IsPart parts i part
   pub linked_as : LinkedModule
   pub is : slice_get (linked (set_of parts)) i ≡ Some linked_as
-  pub same_tree : linked_as.tree ≡ tree part.«module»
+  pub same_tree : linked_as.tree ≡ view_module part.«module»
   pub same_numbers : linked_as.numbers ≡ numbers
 
 pub linked_at : (parts : List Part) (numbers : List StoreNumbers) (i : ℕ) (d : StoreNumbers) → numbers ≡ map (λ p. p.numbers) (linked (set_of parts)) → i < length parts → LinkedAt parts i (get_or numbers i d)
@@ -46,7 +46,7 @@ linked_at parts numbers i d e lt =
     let set = set_of parts in
     let p = some_there parts i lt in
     let m = some_there (linked set) i (omega (arith, lt, linked_length parts)) in
-    let trees : Some m.0.tree ≡ Some (tree p.0.«module») =
+    let trees : Some m.0.tree ≡ Some (view_module p.0.«module») =
     ap (option_map (λ q. q.tree)) (sym m.1) ∙ sym (slice_get-map (λ q. q.tree) (linked set) i) ∙ ap (λ l. slice_get l i) (linked_trees [] set) ∙ slice_get-map (λ q. q.tree) set i
     ∙ ap (option_map (λ q. q.tree)) (slice_get-map part_in parts i ∙ ap (option_map part_in) p.1) in
     let there : slice_get numbers i ≡ Some m.0.numbers = ap (λ l. slice_get l i) e ∙ slice_get-map (λ q. q.numbers) (linked set) i ∙ ap (option_map (λ q. q.numbers)) m.1 in

@@ -5,11 +5,11 @@ use Rattle.std.proofs.lemmas.List.Elements.{All-nil, All-cons, All-head, All-tai
 use Rattle.std.proofs.lemmas.List.Quantifiers.{all_pairs_push}
 use Rattle.ctw_ops.specs.declared.types.Label.{Label}
 use Rattle.ctw_ops.specs.Types.{FunctionType, erase_function_type}
-use Rattle.ctw_ops.specs.Equal.{same_function_type}
+use Rattle.ctw_ops.specs.Equal.{same_function_type, erases_alike}
 use Rattle.ctw_link.specs.Numbers.{LinkedModule}
-use Rattle.ctw_link.specs.Users.{users_of, AreUnmixed, erases_alike, differing, or_later, mix_behind, mix_among}
+use Rattle.ctw_link.specs.Users.{users_of, AreUnmixed, differing, or_later, mix_behind, mix_among}
 use Rattle.ctw_link.specs.Faults.{mixed, table_fault, tables_fault}
-use Rattle.ctw_link.proofs.TypeTests.{same_function_type_is, same_function_type_when}
+use Rattle.ctw_ops.proofs.EqualLaws.{same_function_type_is, same_function_type_when}
 use Rattle.ctw_link.proofs.Nones.{NoneWhere, none_if, none_or, none_same}
 
 abbrev UserType : Type 0

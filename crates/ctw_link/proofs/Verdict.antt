@@ -6,7 +6,8 @@ use Rattle.ctw_link.specs.declared.fault.LinkFault.TheVariants.{TooManyPages, To
 use Rattle.ctw_link.specs.Sets.{ModuleSet, defined}
 use Rattle.ctw_link.specs.Numbers.{linked}
 use Rattle.ctw_link.specs.Users.{or_later}
-use Rattle.ctw_link.specs.Matching.{AreMatching, pages, entries, most_pages, most_entries}
+use Rattle.ctw_ops.specs.Limits.{most_set_pages, most_set_entries}
+use Rattle.ctw_link.specs.Matching.{AreMatching, pages, entries}
 use Rattle.ctw_link.specs.Faults.{names_fault, imports_fault, tables_fault, pages_fault, entries_fault, set_fault}
 use Rattle.ctw_link.proofs.Nones.{NoneWhere, none_or, none_same, none_within}
 use Rattle.ctw_link.proofs.DistinctNames.{names_none}
@@ -20,7 +21,7 @@ set_none set =
     (none_or _ _ _ _ (names_none set)
     (none_or _ _ _ _ (imports_none set)
     (none_or _ _ _ _ (tables_none (linked set) (defined Table set))
-    (none_or _ _ _ _ (none_within (pages set) most_pages (TooManyPages (pages set))) (none_within (entries set) most_entries (TooManyEntries (entries set)))))))
+    (none_or _ _ _ _ (none_within (pages set) most_set_pages (TooManyPages (pages set))) (none_within (entries set) most_set_entries (TooManyEntries (entries set)))))))
     (λ h. record { names = h.0; imports = h.1.0; tables = h.1.1.0; pages = h.1.1.1.0; entries = h.1.1.1.1 })
     (λ h. (h.names, (h.imports, (h.tables, (h.pages, h.entries)))))
 

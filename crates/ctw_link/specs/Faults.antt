@@ -15,7 +15,8 @@ use Rattle.ctw_link.specs.Sets.{NamedModule, ModuleSet, defined}
 use Rattle.ctw_link.specs.Externals.{wanted, has_name, offered_by}
 use Rattle.ctw_link.specs.Numbers.{LinkedModule, linked}
 use Rattle.ctw_link.specs.Users.{or_later, users_of, mix_among}
-use Rattle.ctw_link.specs.Matching.{pages, entries, most_pages, most_entries}
+use Rattle.ctw_ops.specs.Limits.{most_set_pages, most_set_entries}
+use Rattle.ctw_link.specs.Matching.{pages, entries}
 
 -- ---- names
 
@@ -90,10 +91,10 @@ tables_fault set (suc count) = or_later (tables_fault set count) (table_fault se
 -- ---- sizes
 
 abbrev pub pages_fault : ModuleSet → Option LinkFault
-pages_fault set = if nat_le (pages set) most_pages then None else Some (TooManyPages (pages set))
+pages_fault set = if nat_le (pages set) most_set_pages then None else Some (TooManyPages (pages set))
 
 abbrev pub entries_fault : ModuleSet → Option LinkFault
-entries_fault set = if nat_le (entries set) most_entries then None else Some (TooManyEntries (entries set))
+entries_fault set = if nat_le (entries set) most_set_entries then None else Some (TooManyEntries (entries set))
 
 -- ---- the whole set
 

@@ -7,7 +7,7 @@ use Rattle.ctw_ops.specs.Valid.{IsValid}
 use Rattle.ctw_flat.specs.declared.blocks.Block.{Block}
 use Rattle.ctw_flat.specs.Blocks.{ends_in}
 use Rattle.ctw_flat.specs.Positions.{TellsEnds}
-use Rattle.ctw_module.specs.Trees.{Lent, tree, code_of}
+use Rattle.ctw_module.specs.Trees.{Lent, tree, view_module, code_of}
 use Rattle.ctw_module.specs.Lookup.{imported_count}
 use Rattle.ctw_link.specs.declared.set.Part.{Part}
 use Rattle.ctw_link.specs.Sets.{set_of, defined}
@@ -15,7 +15,7 @@ use Rattle.ctw_link.specs.Numbers.{StoreNumbers, linked, owners}
 use Rattle.ctw_link.specs.Matching.{AreMatching}
 
 abbrev pub IsValidPart : Part → Type 0
-IsValidPart part = IsValid (tree part.«module»)
+IsValidPart part = IsValid (view_module part.«module»)
 
 -- one to 64 valid parts, which define fewer than 2^32 functions and fewer than 2^32 globals
 pub record CanBeLinked (parts : List Part) : Type 0 where

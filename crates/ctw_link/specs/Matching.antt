@@ -3,6 +3,7 @@ use Rattle.std.specs.Prelude.{◌≡◌, ◌≢◌, ◌<◌, ◌≤◌, ℕ, ◌
 use Rattle.ctw_ops.specs.declared.types.Label.{Label}
 use Rattle.ctw_ops.specs.declared.types.Limits.{Limits}
 use Rattle.ctw_ops.specs.declared.types.ExternTag.TheVariants.{Table}
+use Rattle.ctw_ops.specs.Limits.{most_set_pages, most_set_entries}
 use Rattle.ctw_ops.specs.Types.{MemoryType}
 use Rattle.ctw_link.specs.Sets.{NamedModule, ModuleSet, defined}
 use Rattle.ctw_link.specs.Externals.{IsMet}
@@ -24,17 +25,10 @@ pages set = sum_by (λ p. pages_of p.tree.memory) set
 abbrev pub entries : ModuleSet → ℕ
 entries set = sum_by (λ p. entries_of p.tree.table) set
 
--- how many pages and entries a set may begin with
-unfoldable pub most_pages : ℕ
-most_pages = 4096
-
-unfoldable pub most_entries : ℕ
-most_entries = 1000000
-
 -- names differ, each import is met by a part before, the users of each table are unmixed, and sizes are within limits
 pub record AreMatching (set : ModuleSet) : Type 0 where
   pub names : AllPairs (λ p q. p.name ≢ q.name) set
   pub imports : (before behind : ModuleSet) (p : NamedModule) → set ≡ before ++ p ∷ behind → All (IsMet before p.tree) p.tree.imports
   pub tables : (table : ℕ) → table < defined Table set → AreUnmixed (users_of (linked set) table)
-  pub pages : pages set ≤ most_pages
-  pub entries : entries set ≤ most_entries
+  pub pages : pages set ≤ most_set_pages
+  pub entries : entries set ≤ most_set_entries

@@ -4,7 +4,7 @@ use Rattle.ctw_ops.specs.declared.types.Label.{Label}
 use Rattle.ctw_ops.specs.declared.types.ExternTag.{ExternTag}
 use Rattle.ctw_ops.specs.declared.types.ExternTag.TheVariants.{Func, Table, Memory, Global}
 use Rattle.ctw_ops.specs.Tree.{Module}
-use Rattle.ctw_module.specs.Trees.{tree}
+use Rattle.ctw_module.specs.Trees.{view_module}
 use Rattle.ctw_link.specs.declared.set.Part.{Part}
 
 -- a module under the name by which others import from it
@@ -17,7 +17,7 @@ ModuleSet = List NamedModule
 
 -- what a part stands for
 abbrev pub part_in : Part → NamedModule
-part_in part = record { name = part.name; tree = tree part.«module» }
+part_in part = record { name = part.name; tree = view_module part.«module» }
 
 abbrev pub set_of : List Part → ModuleSet
 set_of parts = map part_in parts

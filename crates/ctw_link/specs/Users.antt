@@ -3,8 +3,8 @@
 use Rattle.std.specs.Prelude.{◌≡◌, ℕ, Bool, false, ◌==◌, nat_eq, fold, List, [], ◌∷◌, ◌++◌, map, flat_map, find, slice_get, AllPairs, Option, Some, None, filter_map, if◌then◌else◌}
 use Rattle.std.specs.List.{list_any}
 use Rattle.ctw_ops.specs.declared.types.Label.{Label}
-use Rattle.ctw_ops.specs.Types.{FunctionType, erase_function_type}
-use Rattle.ctw_ops.specs.Equal.{same_function_type}
+use Rattle.ctw_ops.specs.Types.{FunctionType, EraseAlike}
+use Rattle.ctw_ops.specs.Equal.{same_function_type, erases_alike}
 use Rattle.ctw_ops.specs.Tree.{Module, function_entries, type_named}
 use Rattle.ctw_ops.specs.IndirectCalls.{indirect_calls}
 use Rattle.ctw_link.specs.Numbers.{LinkedModule}
@@ -37,12 +37,9 @@ users_of set table = flat_map (λ p. if has_table table p then users_in p.tree e
 
 -- users that erase alike are equal
 abbrev pub AreUnmixed : List (FunctionType Label) → Type 0
-AreUnmixed users = AllPairs (λ a b. erase_function_type a ≡ erase_function_type b → a ≡ b) users
+AreUnmixed users = AllPairs (λ a b. EraseAlike a b → a ≡ b) users
 
 -- ---- the first user that differs
-
-abbrev pub erases_alike : FunctionType Label → FunctionType Label → Bool
-erases_alike a b = same_function_type (erase_function_type a) (erase_function_type b)
 
 -- two types that differ
 abbrev pub differing : FunctionType Label → Option (FunctionType Label) → Option (FunctionType Label × FunctionType Label)

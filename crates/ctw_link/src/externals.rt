@@ -1,7 +1,7 @@
 ghost use Rattle.std.specs.Prelude.{◌≡◌, ◌&&◌};
 ghost use Rattle.ctw_ops.specs.declared.types.ExternTag.TheVariants.{Func, Global};
 ghost use Rattle.ctw_ops.specs.Valid.{IsValid};
-ghost use Rattle.ctw_module.specs.Trees.{tree};
+ghost use Rattle.ctw_module.specs.Trees.{tree, view_module};
 ghost use Rattle.ctw_link.specs.Externals.{declared_type};
 ghost use Rattle.ctw_link.specs.Faults.{meets as meets_type, meets_limits as within_limits};
 
@@ -11,7 +11,7 @@ use ctw_ops::{ExternTag, Limits};
 
 /// The type that a module declares of a thing; None where it has none of that kind and index.
 pub fn declared<'a>(m: &Module<'a>, tag: ExternTag, index: u32) -> Option<ExternKind<'a>>
-    requires { IsValid (tree m.now) }
+    requires { IsValid (view_module m.now) }
     ensures { result ≡ declared_type (tree m.now) tag index }
 {
     match tag {
@@ -54,7 +54,7 @@ fn meets_limits(got: &Limits, want: &Limits) -> bool
 }
 
 fn declared_function<'a>(m: &Module<'a>, index: u32) -> Option<ExternKind<'a>>
-    requires { IsValid (tree m.now) }
+    requires { IsValid (view_module m.now) }
     ensures { result ≡ declared_type (tree m.now) Func index }
 {
     if index >= m.func_count() {

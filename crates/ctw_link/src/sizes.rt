@@ -1,6 +1,6 @@
 ghost use Rattle.std.specs.Prelude.{◌≡◌, ◌≢◌, ◌≤◌, length, IfErr};
 ghost use Rattle.ctw_ops.specs.Valid.{IsValid};
-ghost use Rattle.ctw_module.specs.Trees.{tree};
+ghost use Rattle.ctw_module.specs.Trees.{tree, view_module};
 ghost use Rattle.ctw_link.specs.declared.fault.LinkFault.TheVariants.{NoMemory};
 ghost use Rattle.ctw_link.specs.Sets.{set_of};
 ghost use Rattle.ctw_link.specs.Matching.{pages_of, entries_of, pages, entries};
@@ -49,7 +49,7 @@ pub fn defined_table(m: &Module) -> Option<Limits>
 
 /// How many pages the memory begins with that a module defines; 0 where it defines none.
 fn pages_in(m: &Module) -> u32
-    requires { IsValid (tree m.now) }
+    requires { IsValid (view_module m.now) }
     ensures pages { result ≡ pages_of (tree m.now).memory }
     ensures few { result ≤ 65536 }
 {

@@ -6,7 +6,7 @@ ghost use Rattle.ctw_ops.specs.Tree.{function_entries};
 ghost use Rattle.ctw_ops.specs.Valid.{IsValid};
 ghost use Rattle.ctw_flat.specs.Instructions.{op_of};
 ghost use Rattle.ctw_flat.specs.Spelled.{IsBody};
-ghost use Rattle.ctw_module.specs.Trees.{tree};
+ghost use Rattle.ctw_module.specs.Trees.{tree, view_module};
 ghost use Rattle.ctw_link.specs.Users.{element_entries, call_entries, user_entries, with_entry, first_uses};
 ghost use Rattle.ctw_link.specs.Marks.{MarksThose, AllBelow, call_in};
 
@@ -83,7 +83,7 @@ impl EntriesUsed {
 
     /// Those of all bodies.
     fn take_bodies(&mut self, m: &Module) -> Result<(), AllocError>
-        requires valid { IsValid (tree m.now) }
+        requires valid { IsValid (view_module m.now) }
         requires count { length self.old.seen.items ≡ length (tree m.now).types }
         ensures { OnOk result (self.new.entries.items ≡ fold with_entry self.old.entries.items (call_entries (tree m.now))) }
     {
@@ -98,7 +98,7 @@ impl EntriesUsed {
 
     /// Those of the functions of an element.
     fn take_element(&mut self, m: &Module, element: &Element) -> Result<(), AllocError>
-        requires valid { IsValid (tree m.now) }
+        requires valid { IsValid (view_module m.now) }
         requires functions { AllBelow (length (function_entries (tree m.now))) element.now.functions }
         requires count { length self.old.seen.items ≡ length (tree m.now).types }
         ensures entries { OnOk result (self.new.entries.items ≡ fold with_entry self.old.entries.items (filter_map (slice_get (function_entries (tree m.now))) element.now.functions)) }
@@ -112,7 +112,7 @@ impl EntriesUsed {
 
     /// Those of the functions of all elements.
     fn take_elements(&mut self, m: &Module) -> Result<(), AllocError>
-        requires valid { IsValid (tree m.now) }
+        requires valid { IsValid (view_module m.now) }
         requires count { length self.old.seen.items ≡ length (tree m.now).types }
         ensures entries { OnOk result (self.new.entries.items ≡ fold with_entry self.old.entries.items (element_entries (tree m.now))) }
         ensures count { OnOk result (length self.new.seen.items ≡ length self.old.seen.items) }
@@ -131,7 +131,7 @@ impl EntriesUsed {
 /// The type entries of a module's table users, each once, in the order in which they are first used: those of the
 /// functions in its elements, and then those of its indirect calls. Takes linear time.
 pub fn entries_used(alloc: Global, m: &Module) -> Result<SmallVec<u32, 16>, AllocError>
-    requires { IsValid (tree m.now) }
+    requires { IsValid (view_module m.now) }
     ensures { IfOk result (λ entries. entries.items ≡ first_uses (user_entries (tree m.now))) }
 {
     let mut used = EntriesUsed::new(alloc, m.type_count())?;

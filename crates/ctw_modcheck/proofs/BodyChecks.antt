@@ -53,14 +53,14 @@ typed_kind at (Some rule) = λ q. cc
 
 kind_kept : (C : Context Label) (op : Op Label) (at : ℕ) (vs : List (Level Label)) → kind_of (within C vs) op at (slots_of vs) ≢ body.NoMemory
 kind_kept C (Plain leaf) at vs =
-    let rest = typed_kind at (broken_rule (Plain leaf) (slots_of vs)) in
+    let rest = typed_kind at (broken_rule C.profile (Plain leaf) (slots_of vs)) in
     let D = within C vs in
     let a = if_kept (not (is_allowed D leaf)) (body.Trust at) _ (λ q. cc) rest in
     let b = if_kept (not (is_mutable D leaf)) (body.Immutable at) _ (λ q. cc) a in
     let c = if_kept (not (is_aligned leaf)) (body.Align at) _ (λ q. cc) b in
     if_kept (not (is_there D leaf)) (body.Index at) _ (λ q. cc) c
-kind_kept C (Opens k t) at vs = typed_kind at (broken_rule (Opens k t) (slots_of vs))
-kind_kept C (Closes k) at vs = typed_kind at (broken_rule (Closes k) (slots_of vs))
+kind_kept C (Opens k t) at vs = typed_kind at (broken_rule C.profile (Opens k t) (slots_of vs))
+kind_kept C (Closes k) at vs = typed_kind at (broken_rule C.profile (Closes k) (slots_of vs))
 
 fault_kept : (C : Context Label) (at : ℕ) (ops : List (Op Label)) (vs : List (Level Label)) → fault_from C at ops vs ≢ Some body.NoMemory
 fault_kept C at [] vs = λ q. cc

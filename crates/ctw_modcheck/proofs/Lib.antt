@@ -11,3 +11,4 @@ pub mod ExportNames
 pub mod Order
 pub mod BodyChecks
 pub mod Verdict
+pub mod Views

@@ -6,7 +6,7 @@ use Rattle.ctw_ops.specs.declared.fault.Space.TheVariants as space
 use Rattle.ctw_ops.specs.Tree.{Module, Extern, ImportedFunction, ImportedTable, ImportedMemory, ImportedGlobal, Import, or_memory, or_table, memory_among, table_among}
 use Rattle.ctw_ops.specs.Typing.{optional}
 use Rattle.ctw_ops.specs.Valid.{IsImported}
-use Rattle.ctw_module.specs.Once.{with_table, with_memory, imported_tables, imported_memories}
+use Rattle.ctw_ops.specs.Once.{with_table, with_memory, imported_tables, imported_memories}
 use Rattle.ctw_module.specs.Spelled.{Spells}
 use Rattle.ctw_module.specs.Trees.{Lent, tree}
 use Rattle.ctw_module.proofs.OneOfEach.{at_most_one}

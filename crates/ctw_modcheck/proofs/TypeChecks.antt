@@ -10,9 +10,11 @@ use Rattle.ctw_ops.specs.declared.types.Trust.TheVariants.{Untrusted}
 use Rattle.ctw_ops.specs.declared.types.Limits.{Limits}
 use Rattle.ctw_ops.specs.Types.{ValueType, FunctionType, MemoryType, value_type, erase_value_type, erase_function_type}
 use Rattle.ctw_ops.specs.Tree.{TypeEntry}
-use Rattle.ctw_ops.specs.Valid.{IsEntry, IsVariant, AreTypes, AreLimits, IsMemory, most_pages}
+use Rattle.ctw_ops.specs.Valid.{IsEntry, IsVariant, AreTypes, AreLimits, IsMemory}
+use Rattle.ctw_ops.specs.Limits.{most_memory_pages}
 use Rattle.ctw_modcheck.specs.declared.fault.Invalid.TheVariants.{Variant}
-use Rattle.ctw_modcheck.specs.Faults.{unless, of_some, same_width, same_widths, same_result_width, erase_alike, is_variant, is_based_on, variant_fault, types_fault, upto, in_order, within_pages, is_memory}
+use Rattle.ctw_ops.specs.Equal.{same_width}
+use Rattle.ctw_modcheck.specs.Faults.{unless, of_some, same_widths, same_result_width, erase_alike, is_variant, is_based_on, variant_fault, types_fault, upto, in_order, within_pages, is_memory}
 use Rattle.ctw_modcheck.proofs.Nones.{NoneWhere, none_unless, none_or, all_first, all_rest, both_tests, not_test, none_test, le_test, all_test}
 
 -- ---- types that erase alike
@@ -191,12 +193,12 @@ upto_test n (Some m) = le_test n m
 pub limits_test : (l : Limits) → (in_order l ≡ true) ↔ AreLimits l
 limits_test l = upto_test l.min l.max
 
-pages_test : (o : Option ℕ) → (within_pages o ≡ true) ↔ IfSome o (λ max. max ≤ most_pages)
+pages_test : (o : Option ℕ) → (within_pages o ≡ true) ↔ IfSome o (λ max. max ≤ most_memory_pages)
 pages_test None = ((λ e. tt), (λ h. refl))
-pages_test (Some m) = le_test m most_pages
+pages_test (Some m) = le_test m most_memory_pages
 
 pub memory_test : (t : MemoryType Label) → (is_memory t ≡ true) ↔ IsMemory t
 memory_test t =
-    let a = both_tests (in_order t.limits) (nat_le t.limits.min most_pages) (AreLimits t.limits) (t.limits.min ≤ most_pages) (limits_test t.limits) (le_test t.limits.min most_pages) in
-    let b = both_tests (in_order t.limits && nat_le t.limits.min most_pages) (within_pages t.limits.max) (AreLimits t.limits × (t.limits.min ≤ most_pages)) (IfSome t.limits.max (λ max. max ≤ most_pages)) a (pages_test t.limits.max) in
+    let a = both_tests (in_order t.limits) (nat_le t.limits.min most_memory_pages) (AreLimits t.limits) (t.limits.min ≤ most_memory_pages) (limits_test t.limits) (le_test t.limits.min most_memory_pages) in
+    let b = both_tests (in_order t.limits && nat_le t.limits.min most_memory_pages) (within_pages t.limits.max) (AreLimits t.limits × (t.limits.min ≤ most_memory_pages)) (IfSome t.limits.max (λ max. max ≤ most_memory_pages)) a (pages_test t.limits.max) in
     ((λ e. let q = b.0 e in (q.0.0, q.0.1, q.1)), (λ h. b.1 ((h.0, h.1), h.2)))

@@ -17,7 +17,7 @@ use Rattle.ctw_ops.specs.declared.fault.Space.{Space}
 use Rattle.ctw_ops.specs.declared.fault.Space.TheVariants as space
 use Rattle.ctw_ops.specs.Types.{ValueType, VariableType, MemoryType, value_type, type_byte, byte_type}
 use Rattle.ctw_ops.specs.Tree.{Module, Extern, ImportedFunction, ImportedTable, ImportedMemory, ImportedGlobal, Constant, Number, ValueOf, Global, Export, Element, Segment, imported_globals, memory_among, table_among, function_entries, global_types, type_named}
-use Rattle.ctw_ops.specs.Valid.{AreLimits, IsMemory, Names, IsImported, IsConstantOf, HasType, IsGlobal, IsOffset, IsExported, IsStart, IsElement, IsSegment, IsValidAround, IsValid}
+use Rattle.ctw_ops.specs.Valid.{AreLimits, IsMemory, Names, IsImported, IsConstantOf, HasType, IsGlobal, IsOffset, IsExported, IsStart, IsElement, IsSegment, IsValidAround, IsFormed, IsValid}
 use Rattle.ctw_ops.specs.Bodies.{HasItsType}
 use Rattle.ctw_modcheck.specs.declared.fault.Invalid.TheVariants.{ModuleIndex, DoubleExport, ConstExpr, LimitsOrder, StartType, SegmentType}
 use Rattle.ctw_modcheck.specs.Faults.{first_in, names, in_order, is_memory, table_fault, memory_fault, extern_fault, import_fault, function_fault, is_there, same_type, is_constant, has_type, names_constant, is_of_type, global_fault, names_extern, has_name, export_fault, exports_fault, has_no_types, is_bare, start_type_fault, start_fault, offset_fault, element_fault, segment_fault, around_fault}
@@ -261,15 +261,15 @@ around_none m =
 
 -- ---- with the bodies
 
-valid_none : (m : Module Label) → NoneWhere (fault_of m) (IsValid m)
+valid_none : (m : Module Label) → IsFormed m → NoneWhere (fault_of m) (IsValid m)
 unfolding fault_of
-valid_none m =
+valid_none m formed =
     none_same (fault_of m) _ (IsValid m) (none_or (around_fault m) (bodies_fault m) (IsValidAround m) (All (HasItsType m) m.functions) (around_none m) (bodies_none m))
-    (λ h. record { around = h.0; bodies = h.1 }) (λ v. (v.around, v.bodies))
+    (λ h. record { formed = formed; around = h.0; bodies = h.1 }) (λ v. (v.around, v.bodies))
 
 -- a module without a fault is valid, and a valid one has none
-pub none_is_valid : (m : Module Label) → fault_of m ≡ None → IsValid m
-none_is_valid m e = (valid_none m).0 e
+pub none_is_valid : (m : Module Label) → IsFormed m → fault_of m ≡ None → IsValid m
+none_is_valid m formed e = (valid_none m formed).0 e
 
 pub valid_is_none : (m : Module Label) → IsValid m → fault_of m ≡ None
-valid_is_none m v = (valid_none m).1 v
+valid_is_none m v = (valid_none m v.formed).1 v

@@ -5,7 +5,7 @@ use Rattle.ctw_ops.specs.declared.types.Label.{Label}
 use Rattle.ctw_ops.specs.declared.fault.Space.{Space}
 use Rattle.ctw_ops.specs.declared.fault.Space.TheVariants as space
 use Rattle.ctw_ops.specs.Tree.{Module, TypeEntry, Extern, ImportedFunction, ImportedTable, ImportedMemory, ImportedGlobal, Export, Constant}
-use Rattle.ctw_ops.specs.Valid.{IsValid}
+use Rattle.ctw_ops.specs.Valid.{IsFormed, IsValid}
 use Rattle.ctw_valid.specs.declared.fault.BodyFault.{BodyFault}
 use Rattle.ctw_valid.specs.declared.fault.BodyFault.TheVariants as body
 use Rattle.ctw_valid.specs.Faults.{body_fault}
@@ -132,9 +132,9 @@ no_some : {x : Invalid} → ◌≡◌ {A = Option Invalid} None (Some x) → ⊥
 no_some q = cc
 
 module _ (m : Module Label) where
-  pub is_sound : (r : Result (Unit {0}) Invalid) → Finds r (fault_of m) → OnOk r (IsValid m)
-  is_sound (Ok u) h = none_is_valid m h
-  is_sound (Err x) h = tt
+  pub is_sound : (r : Result (Unit {0}) Invalid) → IsFormed m → Finds r (fault_of m) → OnOk r (IsValid m)
+  is_sound (Ok u) formed h = none_is_valid m formed h
+  is_sound (Err x) formed h = tt
 
   pub is_complete : (r : Result (Unit {0}) Invalid) → Finds r (fault_of m) → IsValid m → IsOkUnless r NoMemory
   is_complete (Ok u) h v = tt

@@ -7,7 +7,8 @@ use Rattle.ctw_ops.specs.declared.types.Width.{Width}
 use Rattle.ctw_ops.specs.declared.types.Width.TheVariants.{W32, W64}
 use Rattle.ctw_ops.specs.Types.{ValueType, byte_type, byte_types, is_type_byte}
 use Rattle.ctw_module.proofs.Params.{types_length, types_at, type_byte_at}
-use Rattle.ctw_modcheck.specs.Faults.{same_width, same_widths, has_no_types}
+use Rattle.ctw_ops.specs.Equal.{same_width}
+use Rattle.ctw_modcheck.specs.Faults.{same_widths, has_no_types}
 
 pub lengths_differ : (ts us : List (ValueType Label)) → (length ts ≡ length us → ⊥) → same_widths ts us ≡ false
 lengths_differ [] [] n = absurd (n refl)

@@ -14,7 +14,8 @@ use Rattle.ctw_ops.specs.declared.fault.Space.{Space}
 use Rattle.ctw_ops.specs.declared.fault.Space.TheVariants as space
 use Rattle.ctw_ops.specs.Types.{ValueType, FunctionType, VariableType, MemoryType, value_type, type_byte}
 use Rattle.ctw_ops.specs.Tree.{Module, TypeEntry, Extern, ImportedFunction, ImportedTable, ImportedMemory, ImportedGlobal, Import, Function, Constant, Number, ValueOf, Global, Export, Element, Segment, imported_globals, memory_among, table_among, function_entries, global_types, type_named}
-use Rattle.ctw_ops.specs.Valid.{most_pages}
+use Rattle.ctw_ops.specs.Equal.{same_width}
+use Rattle.ctw_ops.specs.Limits.{most_memory_pages}
 use Rattle.ctw_modcheck.specs.declared.fault.Invalid.{Invalid}
 use Rattle.ctw_modcheck.specs.declared.fault.Invalid.TheVariants.{ModuleIndex, DoubleExport, ConstExpr, LimitsOrder, StartType, SegmentType, Variant}
 
@@ -41,11 +42,6 @@ abbrev pub names : {A : Type 0} → List A → ℕ → Bool
 names things index = is_some (slice_get things index)
 
 -- ---- types
-
-abbrev pub same_width : Width → Width → Bool
-same_width W32 W32 = true
-same_width W64 W64 = true
-same_width _ _ = false
 
 abbrev pub same_widths : List (ValueType Label) → List (ValueType Label) → Bool
 same_widths [] [] = true
@@ -88,10 +84,10 @@ in_order limits = upto limits.min limits.max
 
 abbrev pub within_pages : Option ℕ → Bool
 within_pages None = true
-within_pages (Some max) = nat_le max most_pages
+within_pages (Some max) = nat_le max most_memory_pages
 
 abbrev pub is_memory : MemoryType Label → Bool
-is_memory t = in_order t.limits && nat_le t.limits.min most_pages && within_pages t.limits.max
+is_memory t = in_order t.limits && nat_le t.limits.min most_memory_pages && within_pages t.limits.max
 
 abbrev pub table_fault : Space → Limits → Option Invalid
 table_fault where_ limits = unless (in_order limits) (LimitsOrder where_)

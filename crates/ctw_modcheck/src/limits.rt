@@ -19,7 +19,7 @@ fn are_in_order(limits: Limits) -> bool
 }
 
 /// Whether a memory's sizes are in order and within the most pages.
-#[tactic(auto, unfolding(ctw_ops::specs::Valid::most_pages))]
+#[tactic(auto, unfolding(ctw_ops::specs::Limits::most_memory_pages))]
 fn are_pages(ty: MemType) -> bool
     ensures { result ≡ is_memory ty }
 {
@@ -27,7 +27,7 @@ fn are_pages(ty: MemType) -> bool
 }
 
 /// Whether a greatest size, where there is one, is within the most pages.
-#[tactic(auto, unfolding(ctw_ops::specs::Valid::most_pages))]
+#[tactic(auto, unfolding(ctw_ops::specs::Limits::most_memory_pages))]
 fn fits(max: Option<u32>) -> bool
     ensures { result ≡ within_pages max }
 {

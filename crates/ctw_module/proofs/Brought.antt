@@ -19,7 +19,7 @@ use Rattle.ctw_module.specs.declared.table.SectionKind.{SectionKind}
 use Rattle.ctw_module.specs.declared.table.SectionKind.TheVariants as kind
 use Rattle.ctw_module.specs.declared.table.Held.{Held}
 use Rattle.ctw_module.specs.declared.sections.Seen.{Seen}
-use Rattle.ctw_module.specs.Limits.{most_params, most_locals}
+use Rattle.ctw_ops.specs.Limits.{most_params, most_locals}
 use Rattle.ctw_module.specs.Tables.{section_kind, entry_form, rising}
 use Rattle.ctw_module.specs.Sections.{Group, Entry, Section, CustomSection, TypeSection, ImportSection, FunctionSection, TableSection, MemorySection, GlobalSection, ExportSection, StartSection, ElementSection, CodeSection, DataSection, locals_of, held_after, nothing_seen, seen_after, Parts, no_parts, with_section}
 use Rattle.ctw_module.specs.Spelled.{Count, count_after, IsTypeEntry, IsSignature, EntryBehind, entry_of, IsImport, IsGlobal, IsExport, IsElement, IsSegment, IsVariable, IsValueType, IsGroup, IsEntry, IsCodes, all_after, Insides, IsSection, IsFile, File}

@@ -18,9 +18,10 @@ use Rattle.ctw_flat.specs.Bodies.{opened_by, own_body, IsStep, step_at}
 use Rattle.ctw_flat.proofs.Bodies.{not_deep, exact_step, step_filled, steps_are, are_steps, Allowed, allowed_steps, allowed_body, body_limited}
 use Rattle.ctw_module.specs.declared.fault.FormKind.TheVariants.{CountMismatch, Unbalanced, LabelsInPlain}
 use Rattle.ctw_module.specs.declared.fault.FormFault.{FormFault}
-use Rattle.ctw_module.specs.Limits.{most_locals, most_locals_of_all, room_for}
+use Rattle.ctw_ops.specs.Limits.{most_locals, most_locals_of_all}
+use Rattle.ctw_module.specs.Limits.{room_for}
 use Rattle.ctw_module.specs.Sections.{Entry}
-use Rattle.ctw_module.specs.Plain.{is_plain_op, fits}
+use Rattle.ctw_ops.specs.Plain.{is_plain_op, fits}
 use Rattle.ctw_module.specs.Spelled.{Count, count_after, group_of, IsGroup, IsGroups, IsFormBody, Kept, code_entry, IsEntry, all_after, IsCodes, IsValueType}
 use Rattle.ctw_module.specs.Read.{fault, of_code, number_at, limited, value_type_at, label_place, label_at, unless_label, form_step_at, settled, form_body_at, kept, group_count_at, group_at, groups_at, entry_insides_at, code_entry_at, owed_at, codes_at}
 use Rattle.ctw_module.proofs.TypeForms.{exact_number, exact_limited, exact_sized_at, exact_value_type}

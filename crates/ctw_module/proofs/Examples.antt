@@ -15,7 +15,7 @@ use Rattle.ctw_flat.specs.Read as flat
 use Rattle.ctw_module.specs.declared.fault.FormKind.TheVariants.{Truncated, BadLeb, SizeMismatch, CountMismatch, Unbalanced, LabelsInPlain}
 use Rattle.ctw_module.specs.Sections.{no_parts, module_of}
 use Rattle.ctw_module.specs.Spelled.{magic, version}
-use Rattle.ctw_module.specs.Limits.{most_params, most_plain_bytes, most_locals, most_locals_of_all}
+use Rattle.ctw_ops.specs.Limits.{most_params, most_plain_bytes, most_locals, most_locals_of_all}
 use Rattle.ctw_module.specs.Tables.{entry_form, section_kind, value_type}
 use Rattle.ctw_module.specs.Read.{fault, number_at, params_at, results_at, signature_at, type_entry_at, value_type_at, form_step_at, form_body_at, groups_at, group_at, group_count_at, entry_insides_at, code_entry_at, owed_at, codes_at, insides_at, contents_at, section_at, header_at, sections_at, file_at, module_at}
 

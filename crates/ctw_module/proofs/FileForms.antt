@@ -17,7 +17,7 @@ use Rattle.ctw_leb.proofs.Loops.{read_sum}
 use Rattle.ctw_module.specs.declared.fault.FormKind.{FormKind}
 use Rattle.ctw_module.specs.declared.fault.FormKind.TheVariants.{BadMagic, BadVersion, Truncated, CountMismatch, TooMany}
 use Rattle.ctw_module.specs.declared.fault.FormFault.{FormFault}
-use Rattle.ctw_module.specs.Limits.{most_plain_bytes}
+use Rattle.ctw_ops.specs.Limits.{most_plain_bytes}
 use Rattle.ctw_module.specs.Sections.{Section, nothing_seen, seen_after}
 use Rattle.ctw_module.specs.Spelled.{IsSection, magic, version, IsVersion, IsMagic, File, file_of, IsFile, IsFinished, module_in, Spells}
 use Rattle.ctw_module.specs.Read.{fault, section_at, version_of, versioned, header_at, is_small, sections_at, finished, file_at, module_at}

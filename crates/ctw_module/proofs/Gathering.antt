@@ -13,7 +13,7 @@ use Rattle.ctw_module.specs.declared.fault.FormFault.{FormFault}
 use Rattle.ctw_module.specs.declared.table.Held.{Held}
 use Rattle.ctw_module.specs.declared.slots.LocalRun.{LocalRun}
 use Rattle.ctw_module.specs.declared.slots.ElementSlot.{ElementSlot}
-use Rattle.ctw_module.specs.Limits.{most_locals, most_locals_of_all}
+use Rattle.ctw_ops.specs.Limits.{most_locals, most_locals_of_all}
 use Rattle.ctw_module.specs.Sections.{Group, Entry, locals_of, none_held, held_after}
 use Rattle.ctw_module.specs.Spelled.{Count, count_after, code_entry, all_after}
 use Rattle.ctw_module.specs.Read.{fault, inside, number_at, vector_at, kept, import_at, imports_at, element_at, group_at, groups_at, form_body_at, sized_at, entry_insides_at, code_entry_at, owed_at, codes_at}

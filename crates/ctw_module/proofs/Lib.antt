@@ -21,6 +21,7 @@ pub mod LocalTypes
 pub mod Heads
 pub mod SizedWindows
 pub mod OneOfEach
+pub mod Fitted
 pub mod Listing
 pub mod Gathering
 pub mod Filling

@@ -17,7 +17,7 @@ use Rattle.ctw_module.specs.declared.table.SectionKind.TheVariants as kind
 use Rattle.ctw_module.specs.declared.table.Held.{Held}
 use Rattle.ctw_module.specs.declared.sections.Seen.{Seen}
 use Rattle.ctw_module.specs.Tables.{extern_kind, import_kind}
-use Rattle.ctw_module.specs.Once.{with_table, with_memory, imported_tables, imported_memories, all_tables, all_memories}
+use Rattle.ctw_ops.specs.Once.{with_table, with_memory, imported_tables, imported_memories, all_tables, all_memories}
 use Rattle.ctw_module.specs.Sections.{Section, Parts, none_held, held_after, held_with, held_by, nothing_seen, seen_after, no_parts, with_section, module_of, first}
 use Rattle.ctw_module.specs.Spelled.{VectorUpto, IsTable, IsMemory, IsExtern, IsImport, room, Insides, IsSection, File, IsFile, Spells}
 use Rattle.ctw_module.proofs.Brought.{Rises, rises}

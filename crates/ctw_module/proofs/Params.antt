@@ -6,7 +6,7 @@ use Rattle.std.proofs.lemmas.Bool.{false≢true}
 use Rattle.ctw_ops.specs.declared.types.Label.{Label}
 use Rattle.ctw_ops.specs.Types.{ValueType, byte_type, byte_types, is_type_byte}
 use Rattle.ctw_ops.specs.Tree.{TypeEntry, no_function_type}
-use Rattle.ctw_module.specs.Limits.{most_params}
+use Rattle.ctw_ops.specs.Limits.{most_params}
 use Rattle.ctw_module.proofs.Weights.{Every}
 use Rattle.ctw_module.proofs.Brought.{HasFewParams}
 

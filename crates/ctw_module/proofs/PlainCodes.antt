@@ -24,7 +24,7 @@ use Rattle.ctw_flat.specs.declared.opcode.First.TheVariants.{Direct, Prefix}
 use Rattle.ctw_flat.specs.Opcodes.{is_float, control_form, variable_form, memory_form, labelling_form, form as form_of, direct, opcode, has_secret_form, if_secret, secret_form, block_type}
 use Rattle.ctw_flat.specs.Spelled.{Immediate, Behind, IsOp}
 use Rattle.ctw_flat.proofs.Bodies.{opening_form}
-use Rattle.ctw_module.specs.Plain.{is_plain_type, is_plain_op}
+use Rattle.ctw_ops.specs.Plain.{is_plain_type, is_plain_op}
 use Rattle.ctw_module.specs.Read.{label_place}
 
 -- ---- opcodes that stand for no label and open no block

@@ -24,11 +24,11 @@ use Rattle.ctw_module.specs.declared.table.SectionKind.{SectionKind}
 use Rattle.ctw_module.specs.declared.table.SectionKind.TheVariants as kind
 use Rattle.ctw_module.specs.declared.table.Held.{Held}
 use Rattle.ctw_module.specs.declared.sections.Seen.{Seen}
-use Rattle.ctw_module.specs.Limits.{most_params, most_results}
+use Rattle.ctw_ops.specs.Limits.{most_params, most_results}
 use Rattle.ctw_module.specs.Tables.{value_type, entry_form, memory_form, constant_form}
 use Rattle.ctw_module.specs.Sections.{Group, Entry, Section, Parts, nothing_seen, seen_after, no_parts, with_section, locals_of, first, functions_of, held_after}
 use Rattle.ctw_module.specs.Spelled.{IsValueType, IsSignature, EntryBehind, IsTypeEntry, IsMemory, IsVariable, IsExtern, IsImport, ConstantBehind, IsConstant, IsGlobal, IsElement, IsSegment, Count, count_after, IsGroup, IsEntry, all_after, room, Insides, IsSection, File, IsFile, Spells}
-use Rattle.ctw_module.specs.Plain.{is_plain_op, IsPublicType, IsPlainEntry, IsPlainExtern, IsPlainConstant, IsPlainGlobal, IsPlainFunction, IsPlainModule}
+use Rattle.ctw_ops.specs.Plain.{is_plain_op, IsPublicType, IsPlainEntry, IsPlainExtern, IsPlainConstant, IsPlainGlobal, IsPlainFunction, IsPlainModule}
 use Rattle.ctw_module.proofs.SpelledTrees.{all_times, all_vector, all_vector_upto, parts_kept}
 
 -- ---- tables of plain modules

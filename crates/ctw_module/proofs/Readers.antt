@@ -7,7 +7,7 @@ use Rattle.ctw_ops.specs.Tree.{Element, Function, type_named}
 use Rattle.ctw_module.specs.declared.slots.LocalRun.{LocalRun}
 use Rattle.ctw_module.specs.declared.slots.ElementSlot.{ElementSlot}
 use Rattle.ctw_module.specs.declared.«module».Module.TheInside.{Inside}
-use Rattle.ctw_module.specs.Limits.{most_params}
+use Rattle.ctw_ops.specs.Limits.{most_params}
 use Rattle.ctw_module.specs.Sections.{Entry}
 use Rattle.ctw_module.specs.Spelled.{Spells}
 use Rattle.ctw_module.specs.Trees.{Lent, tree, parts}

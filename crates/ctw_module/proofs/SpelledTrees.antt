@@ -16,7 +16,7 @@ use Rattle.ctw_module.specs.declared.sections.Seen.{Seen}
 use Rattle.ctw_module.specs.Tables.{rising, section_kind}
 use Rattle.ctw_module.specs.Sections.{Entry, Section, Parts, FunctionSection, CodeSection, nothing_seen, seen_after, no_parts, with_section, locals_of, functions_of}
 use Rattle.ctw_module.specs.Spelled.{VectorUpto, IsFormBody, IsEntry, all_after, IsCodes, Insides, IsSection, File, IsFile, Spells}
-use Rattle.ctw_module.specs.Trees.{Lent, file_of_bytes, tree, parts, code_of}
+use Rattle.ctw_module.specs.Trees.{Lent, file_of_bytes, tree, parts, code_of, view_of}
 use Rattle.ctw_module.proofs.FileForms.{spelled_file}
 
 -- ---- lists that are spelled
@@ -194,13 +194,13 @@ steady_file bytes file m =
 -- ---- the tree and the parts of a view
 
 abbrev lent : List ℕ → Lent
-lent bytes = record { bytes = bytes }
+lent bytes = view_of bytes
 
-pub tree_is : (bytes : List ℕ) (m : Module Label) → Spells bytes m → tree (record { bytes = bytes }) ≡ m
+pub tree_is : (bytes : List ℕ) (m : Module Label) → Spells bytes m → tree (view_of bytes) ≡ m
 unfolding tree file_of_bytes
 tree_is bytes m s = rw (spelled_file bytes m s) s.made
 
-pub parts_are : (bytes : List ℕ) (m : Module Label) (s : Spells bytes m) → parts (record { bytes = bytes }) ≡ state_after with_section no_parts s.file.sections
+pub parts_are : (bytes : List ℕ) (m : Module Label) (s : Spells bytes m) → parts (view_of bytes) ≡ state_after with_section no_parts s.file.sections
 unfolding parts file_of_bytes
 parts_are bytes m s = rw (spelled_file bytes m s) refl
 
@@ -217,10 +217,10 @@ file_filled bytes m s =
       spelled = subst (λ (ct : Bool). All (IsSpelledEntry ct) (state_after with_section no_parts s.file.sections).entries) same h.spelled;
     }
 
-pub parts_filled : (bytes : List ℕ) (m : Module Label) → Spells bytes m → Filled m.ct (parts (record { bytes = bytes }))
+pub parts_filled : (bytes : List ℕ) (m : Module Label) → Spells bytes m → Filled m.ct (parts (view_of bytes))
 parts_filled bytes m s = subst (Filled m.ct) (sym (parts_are bytes m s)) (file_filled bytes m s)
 
-pub functions_are : (bytes : List ℕ) (m : Module Label) → Spells bytes m → m.functions ≡ functions_of (parts (record { bytes = bytes })).uses (parts (record { bytes = bytes })).entries
+pub functions_are : (bytes : List ℕ) (m : Module Label) → Spells bytes m → m.functions ≡ functions_of (parts (view_of bytes)).uses (parts (view_of bytes)).entries
 functions_are bytes m s =
     ap (λ (n : Module Label). n.functions) (sym s.made) ∙ ap (λ (p : Parts). functions_of p.uses p.entries) (sym (parts_are bytes m s))
 
@@ -230,9 +230,9 @@ uses_of (type ∷ uses) [] e = absurd (omega (arith, e))
 uses_of (type ∷ uses) (entry ∷ entries) e = ap (λ (l : List ℕ). type ∷ l) (uses_of uses entries (omega (arith, e)))
 
 -- each declared use is a function's
-pub uses_are : (bytes : List ℕ) (m : Module Label) → Spells bytes m → map (λ f. f.type) m.functions ≡ (parts (record { bytes = bytes })).uses
+pub uses_are : (bytes : List ℕ) (m : Module Label) → Spells bytes m → map (λ f. f.type) m.functions ≡ (parts (view_of bytes)).uses
 uses_are bytes m s =
-    let p = parts (record { bytes = bytes }) in
+    let p = parts (view_of bytes) in
     ap (map (λ f. f.type)) (functions_are bytes m s) ∙ uses_of p.uses p.entries (parts_filled bytes m s).counted
 
 none_some : {A : Type 0} (x : A) → None ≡ Some x → ⊥
@@ -251,8 +251,8 @@ code_in ct (type ∷ uses) (entry ∷ entries) zero f h e =
 code_in ct (type ∷ uses) (entry ∷ entries) (suc k) f h e = code_in ct uses entries k f (All-tail (IsSpelledEntry ct) entry entries h) e
 
 -- the code of a view's function spells its body
-pub code_spelled : (bytes : List ℕ) (m : Module Label) (k : ℕ) (f : Function Label) → Spells bytes m → slice_get m.functions k ≡ Some f → IsFormBody m.ct (code_of (record { bytes = bytes }) k) f.body
+pub code_spelled : (bytes : List ℕ) (m : Module Label) (k : ℕ) (f : Function Label) → Spells bytes m → slice_get m.functions k ≡ Some f → IsFormBody m.ct (code_of (view_of bytes) k) f.body
 unfolding code_of
 code_spelled bytes m k f s e =
-    let p = parts (record { bytes = bytes }) in
+    let p = parts (view_of bytes) in
     code_in m.ct p.uses p.entries k f (parts_filled bytes m s).spelled (ap (λ (l : List (Function Label)). slice_get l k) (sym (functions_are bytes m s)) ∙ e)

@@ -17,7 +17,7 @@ use Rattle.ctw_module.specs.declared.fault.FormKind.TheVariants.{Truncated, TooM
 use Rattle.ctw_module.specs.declared.fault.FormFault.{FormFault}
 use Rattle.ctw_module.specs.declared.table.EntryForm.{EntryForm}
 use Rattle.ctw_module.specs.declared.table.EntryForm.TheVariants.{Direct, Variant}
-use Rattle.ctw_module.specs.Limits.{most_params, most_results}
+use Rattle.ctw_ops.specs.Limits.{most_params, most_results}
 use Rattle.ctw_module.specs.Tables.{value_type, entry_form, trust_byte, table_byte, limits_form, memory_form, mutability}
 use Rattle.ctw_module.specs.Spelled.{VectorUpto, IsValueType, IsSignature, entry_of, EntryBehind, IsTypeEntry, unbounded, bounded, Sizes, IsTable, memory_type, IsMemory, variable_type, IsVariable}
 use Rattle.ctw_module.specs.Read.{fault, of_leb, inside, by_table, number_at, bits32_at, bits64_at, name_at, limited, upto_at, vector_at, vector_upto_at, sized_at, byte_vector_at, value_type_at, params_at, results_at, signature_at, variant_at, entry_behind, type_entry_at, sizes_at, table_at, memory_at, variable_at}

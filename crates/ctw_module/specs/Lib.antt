@@ -1,7 +1,6 @@
 pub mod Limits
 pub mod Tables
 pub mod Sections
-pub mod Plain
 pub mod Spelled
 pub mod Read
 pub mod Trees
@@ -13,4 +12,3 @@ pub mod View
 pub mod Pieces
 pub mod Gathered
 pub mod Gathers
-pub mod Once

@@ -38,7 +38,8 @@ use Rattle.ctw_module.specs.declared.table.SectionKind.{SectionKind}
 use Rattle.ctw_module.specs.declared.table.SectionKind.TheVariants as kind
 use Rattle.ctw_module.specs.declared.table.Held.{Held}
 use Rattle.ctw_module.specs.declared.sections.Seen.{Seen}
-use Rattle.ctw_module.specs.Limits.{most_params, most_results, most_locals, most_locals_of_all, most_plain_bytes, room_for}
+use Rattle.ctw_ops.specs.Limits.{most_nesting, most_params, most_results, most_locals, most_locals_of_all, most_plain_bytes}
+use Rattle.ctw_module.specs.Limits.{room_for}
 use Rattle.ctw_module.specs.Tables.{value_type, entry_form, trust_byte, table_byte, limits_form, memory_form, mutability, extern_kind, import_kind, constant_form, secret_constant, constant_end, section_kind}
 use Rattle.ctw_module.specs.Sections.{Group, Entry, Section, CustomSection, TypeSection, ImportSection, FunctionSection, TableSection, MemorySection, GlobalSection, ExportSection, StartSection, ElementSection, CodeSection, DataSection, none_held, held_after, nothing_seen, seen_after, first}
 use Rattle.ctw_module.specs.Spelled.{entry_of, unbounded, bounded, memory_type, variable_type, import_of, export_of, global_of, element_of, segment_of, Count, count_after, group_of, code_entry, all_after, room, magic, version, File, file_of, module_in}
@@ -59,7 +60,7 @@ of_code_kind code.BadOpcode = BadOpcode
 of_code_kind code.Floats = Floats
 of_code_kind code.BadBlockType = BadType
 of_code_kind code.Unbalanced = Unbalanced
-of_code_kind code.TooDeep = TooMany what.Nesting 4096
+of_code_kind code.TooDeep = TooMany what.Nesting most_nesting
 
 -- the fault of an instruction
 abbrev pub of_code : CodeFault → FormFault

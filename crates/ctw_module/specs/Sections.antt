@@ -1,5 +1,6 @@
 -- The sections of a file (W3C WebAssembly Core 1.0, section 5.5), and the module that they make.
 use Rattle.std.specs.Prelude.{ℕ, Bool, true, false, List, [], ◌∷◌, ◌++◌, length, Option, Some, None, replicate}
+use Rattle.ctw_ops.specs.declared.numeric.Profile.TheVariants.{Divide}
 use Rattle.ctw_ops.specs.declared.types.Label.{Label}
 use Rattle.ctw_ops.specs.declared.types.Limits.{Limits}
 use Rattle.ctw_ops.specs.Types.{ValueType, MemoryType}
@@ -138,9 +139,11 @@ functions_of [] entries = []
 functions_of (type ∷ types) [] = []
 functions_of (type ∷ types) (e ∷ entries) = record { type = type; locals = locals_of e.groups; body = e.body } ∷ functions_of types entries
 
+-- the profile isn't spelled: a module as it is read has the profile Divide
 abbrev pub module_of : Bool → Parts → Module Label
 module_of ct p = record {
   ct = ct;
+  profile = Divide;
   types = p.types;
   imports = p.imports;
   functions = functions_of p.uses p.entries;

@@ -5,7 +5,7 @@ use Rattle.ctw_ops.specs.Tree.{Module, Function, Constant, Element}
 use Rattle.ctw_module.specs.declared.slots.LocalRun.{LocalRun}
 use Rattle.ctw_module.specs.declared.slots.ElementSlot.{ElementSlot}
 use Rattle.ctw_module.specs.Sections.{Group, Entry, locals_of}
-use Rattle.ctw_module.specs.Limits.{most_locals}
+use Rattle.ctw_ops.specs.Limits.{most_locals}
 use Rattle.ctw_module.specs.Lookup.{function_named}
 use Rattle.ctw_module.specs.Shown.{constant_of}
 

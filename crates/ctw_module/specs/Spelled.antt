@@ -25,10 +25,11 @@ use Rattle.ctw_module.specs.declared.table.SectionKind.{SectionKind}
 use Rattle.ctw_module.specs.declared.table.SectionKind.TheVariants as kind
 use Rattle.ctw_module.specs.declared.table.Held.{Held}
 use Rattle.ctw_module.specs.declared.sections.Seen.{Seen}
-use Rattle.ctw_module.specs.Limits.{most_params, most_results, most_locals, most_locals_of_all, most_plain_bytes, room_for}
+use Rattle.ctw_ops.specs.Limits.{most_params, most_results, most_locals, most_locals_of_all, most_plain_bytes}
+use Rattle.ctw_module.specs.Limits.{room_for}
 use Rattle.ctw_module.specs.Tables.{value_type, entry_form, trust_byte, table_byte, limits_form, memory_form, mutability, extern_kind, import_kind, constant_form, secret_constant, constant_end, section_kind}
 use Rattle.ctw_module.specs.Sections.{Group, Entry, Section, CustomSection, TypeSection, ImportSection, FunctionSection, TableSection, MemorySection, GlobalSection, ExportSection, StartSection, ElementSection, CodeSection, DataSection, locals_of, none_held, held_after, nothing_seen, seen_after, no_parts, with_section, first, module_of}
-use Rattle.ctw_module.specs.Plain.{fits}
+use Rattle.ctw_ops.specs.Plain.{fits}
 
 -- ---- types
 

@@ -11,7 +11,7 @@ use Rattle.ctw_module.specs.Shown.{constant_of}
 use Rattle.ctw_module.specs.Slots.{runs_of, coded_behind, headed, headed_behind, element_functions}
 
 abbrev pub lent_by : Inside → Lent
-lent_by v = record { bytes = v.bytes.now }
+lent_by v = record { bytes = v.bytes.now; profile = v.profile }
 
 -- the bytes spell a module, and what is kept beside them is that module's
 pub record IsView (v : Inside) (lent : Lent) : Type 0 where

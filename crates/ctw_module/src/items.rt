@@ -10,7 +10,7 @@ ghost use Rattle.ctw_leb.specs.Reading.{times};
 ghost use Rattle.ctw_leb.specs.Calls.{Finds, Skips};
 ghost use Rattle.ctw_module.specs.declared.table.EntryForm.TheVariants.{Direct};
 ghost use Rattle.ctw_module.specs.Sections.{held_with as held_behind};
-ghost use Rattle.ctw_module.specs.Limits.{most_locals, most_locals_of_all};
+ghost use Rattle.ctw_ops.specs.Limits.{most_locals, most_locals_of_all};
 ghost use Rattle.ctw_module.specs.Shown.{constant_of, extern_of, global_in, group_in};
 ghost use Rattle.ctw_module.specs.Pieces.{section_kind_at, window_at, segment_head_at};
 ghost use Rattle.ctw_module.specs.Read.{of_leb as leb_fault, of_code as code_fault, inside as inside_of, number_at, bits32_at, bits64_at, bits_at, name_at, upto_at, vector_at, byte_vector_at, value_type_at, params_at, results_at, signature_at, variant_at, entry_behind, type_entry_at, sizes_at, table_at, memory_at, variable_at, extern_at, import_at, export_at, constant_number_at, constant_behind, constant_at, global_at, segment_at, group_count_at, group_at};
@@ -240,7 +240,7 @@ fn value_types<'a>(ct: bool, cursor: &mut Cursor<'a>, count: u32) -> Result<&'a 
 }
 
 /// The bytes of a type's parameters.
-#[tactic(auto, unfolding(crate::specs::Read::params_at, crate::specs::Limits::most_params))]
+#[tactic(auto, unfolding(crate::specs::Read::params_at, ctw_ops::specs::Limits::most_params))]
 fn params<'a>(ct: bool, cursor: &mut Cursor<'a>) -> Result<&'a [u8], FormFault>
     ensures types { Finds (λ b. byte_types b.now) result cursor.new (params_at ct cursor.old) }
     ensures bytes { IfOk result (λ b. IsTrue (list_all is_type_byte b.now)) }
@@ -511,7 +511,7 @@ pub fn segment<'a>(ct: bool, cursor: &mut Cursor<'a>) -> Result<Segment<'a>, For
 }
 
 /// The count of a group of locals, behind so many of the function and of all functions.
-#[tactic(auto, unfolding(crate::specs::Read::group_count_at, crate::specs::Limits::most_locals, crate::specs::Limits::most_locals_of_all))]
+#[tactic(auto, unfolding(crate::specs::Read::group_count_at, ctw_ops::specs::Limits::most_locals, ctw_ops::specs::Limits::most_locals_of_all))]
 fn group_count(own: u32, all: u32, cursor: &mut Cursor) -> Result<u32, FormFault>
     ensures count { Finds (λ n. n) result cursor.new (group_count_at (record { own = own; all = all }) cursor.old) }
     ensures within { IfOk result (λ n. (own + n ≤ most_locals) × (all + n ≤ most_locals_of_all)) }

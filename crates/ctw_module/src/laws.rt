@@ -5,13 +5,12 @@ ghost use Rattle.ctw_ops.specs.declared.types.Label.{Label};
 ghost use Rattle.ctw_ops.specs.Tree.{Module, Function};
 ghost use Rattle.ctw_leb.specs.Reading.{Exact, Whole};
 ghost use Rattle.ctw_module.specs.declared.sections.Seen.{Seen};
-ghost use Rattle.ctw_module.specs.Limits.{most_plain_bytes};
+ghost use Rattle.ctw_ops.specs.Limits.{most_plain_bytes};
 ghost use Rattle.ctw_module.specs.Sections.{Section};
-ghost use Rattle.ctw_module.specs.Once.{all_tables, all_memories};
-ghost use Rattle.ctw_module.specs.Plain.{IsPlainModule};
+ghost use Rattle.ctw_ops.specs.Valid.{IsFormed};
 ghost use Rattle.ctw_module.specs.Spelled.{IsFormBody, IsSection, File, IsFile, IsFinished, Spells};
 ghost use Rattle.ctw_module.specs.Read.{form_body_at, section_at, file_at, module_at};
-ghost use Rattle.ctw_module.specs.Trees.{tree, parts, code_of};
+ghost use Rattle.ctw_module.specs.Trees.{tree, parts, code_of, view_of};
 
 /// The readers of sections and of functions' bodies answer exactly what is spelled; no spelling of a
 /// section begins another, and each has one value.
@@ -32,19 +31,13 @@ pub fn one_module()
 /// What a view stands for where its bytes spell a module: that module, with a function for each that the
 /// file declares, and with code that spells each function's body.
 pub fn tree_of_a_file()
-    ensures whole { (bytes : List ℕ) (m : Module Label) → Spells bytes m → tree (record { bytes = bytes }) ≡ m }
-    ensures uses { (bytes : List ℕ) (m : Module Label) → Spells bytes m → map (λ f. f.type) m.functions ≡ (parts (record { bytes = bytes })).uses }
-    ensures code { (bytes : List ℕ) (m : Module Label) (k : ℕ) (f : Function Label) → Spells bytes m → slice_get m.functions k ≡ Some f → IsFormBody m.ct (code_of (record { bytes = bytes }) k) f.body }
+    ensures whole { (bytes : List ℕ) (m : Module Label) → Spells bytes m → tree (view_of bytes) ≡ m }
+    ensures uses { (bytes : List ℕ) (m : Module Label) → Spells bytes m → map (λ f. f.type) m.functions ≡ (parts (view_of bytes)).uses }
+    ensures code { (bytes : List ℕ) (m : Module Label) (k : ℕ) (f : Function Label) → Spells bytes m → slice_get m.functions k ≡ Some f → IsFormBody m.ct (code_of (view_of bytes) k) f.body }
 {}
 
-/// Bytes with the plain version spell a module whose labels are all public, without trusted types, variants,
-/// classify and declassify.
-pub fn plain_module()
-    ensures { (bytes : List ℕ) (m : Module Label) → Spells bytes m → m.ct ≡ false → IsPlainModule m }
-{}
-
-/// A spelled module has at most one table and at most one memory, imported ones among them.
-pub fn at_most_one()
-    ensures tables { (bytes : List ℕ) (m : Module Label) → Spells bytes m → length (all_tables m) ≤ 1 }
-    ensures memories { (bytes : List ℕ) (m : Module Label) → Spells bytes m → length (all_memories m) ≤ 1 }
+/// What bytes spell is formed: it has at most one table and one memory, imported ones among them, its numbers fit their
+/// types, and with the plain version it has no label, trust, variant, classify or declassify.
+pub fn spelled_modules_are_formed()
+    ensures { (bytes : List ℕ) (m : Module Label) → Spells bytes m → IsFormed m }
 {}

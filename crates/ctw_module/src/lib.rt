@@ -15,8 +15,6 @@ mod module;
 mod sections;
 mod slots;
 mod table;
-#[cfg(test)]
-mod tests;
 mod types;
 mod viewing;
 

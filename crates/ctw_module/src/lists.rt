@@ -2,7 +2,7 @@ ghost use Rattle.std.specs.Prelude.{◌≡◌, ◌+◌, ◌≤◌, ◌++◌, ℕ
 ghost use Rattle.std.specs.Option.{option_to_list};
 ghost use Rattle.ctw_ops.specs.declared.fault.What.TheVariants as what;
 ghost use Rattle.ctw_module.specs.declared.lists.ListFault.TheVariants.{Bad, NoMemory};
-ghost use Rattle.ctw_module.specs.Limits.{most_locals_of_all};
+ghost use Rattle.ctw_ops.specs.Limits.{most_locals_of_all};
 ghost use Rattle.ctw_module.specs.Sections.{Entry, locals_of};
 ghost use Rattle.ctw_module.specs.Shown.{global_in, constant_of};
 ghost use Rattle.ctw_module.specs.Slots.{runs_behind, runs_of, coded_behind, headed, headed_behind, element_functions};
@@ -222,7 +222,7 @@ pub fn elements(
 
 /// The locals of a function behind functions with so many, as runs at the end of those of all functions;
 /// and how many locals they are with these.
-#[tactic(auto, unfolding(crate::specs::Read::groups_at, crate::specs::Limits::most_locals, crate::specs::Limits::most_locals_of_all))]
+#[tactic(auto, unfolding(crate::specs::Read::groups_at, ctw_ops::specs::Limits::most_locals, ctw_ops::specs::Limits::most_locals_of_all))]
 fn groups(
     ct: bool,
     all: u32,

@@ -3,7 +3,7 @@ ghost use Rattle.ctw_ops.specs.declared.types.Label.{Label};
 ghost use Rattle.std.specs.Prelude.{IsTrue};
 ghost use Rattle.std.specs.List.{list_all};
 ghost use Rattle.ctw_ops.specs.Types.{byte_types, is_type_byte};
-ghost use Rattle.ctw_module.specs.Limits.{most_params};
+ghost use Rattle.ctw_ops.specs.Limits.{most_params};
 ghost use Rattle.ctw_module.specs.Slots.{IsRunsOf, runs_of, element_functions};
 ghost use Rattle.ctw_ops.specs.Tree.{Function, function_entries, global_types, memory_among, table_among, type_named};
 ghost use Rattle.ctw_flat.specs.Spelled.{IsLimitedBody};
@@ -18,18 +18,20 @@ use crate::locals::{count_of, lend, param_type, part, type_in};
 use crate::slots::{CodeSlot, ElementSlot, LocalRun};
 use crate::types::{Custom, Element, ExternKind, Global1, Import, Segment};
 use ctw_flat::Body;
-use ctw_ops::{ExternTag, FuncType, Limits, MemType, Trust, ValType};
+use ctw_ops::{ExternTag, FuncType, Limits, MemType, Profile, Trust, ValType};
 use indexmap::IndexMap;
 use std::marker::Model;
 
 /// A module as a view of its file's bytes, which spell it. It holds an index over them, by which each
 /// reader takes constant time, or logarithmic time for a local; no reader takes memory.
 ///
-/// Contracts see the bytes, and the module is `tree` of them. An index that a reader is given names a
+/// Contracts see the bytes and the profile. The module that the bytes spell is `tree` of them, and `view_module` is the same
+/// under the profile. An index that a reader is given names a
 /// thing that is there, where its answer has no None for others.
 #[derive(Drop)]
 pub struct Module<'a> {
     pub(crate) bytes: &'a [u8],
+    pub(crate) profile: Profile,
     pub(crate) ct: bool,
     pub(crate) types: Vec<TypeEntry<'a>>,
     pub(crate) imports: Vec<ImportEntry<'a>>,
@@ -69,6 +71,20 @@ impl<'a> Module<'a> {
         ensures spelled { Spells self.now.bytes (tree self.now) }
     {
         self.bytes
+    }
+
+    /// Which operations are taken to leak their operands where the module is checked and run: Divide as it is read.
+    pub fn profile(&self) -> Profile
+        ensures { result ≡ self.now.profile }
+    {
+        self.profile
+    }
+
+    /// The same module under another profile; nothing else changes.
+    pub fn with_profile(self, p: Profile) -> Module<'a>
+        ensures { result ≡ record { bytes = self.entry.bytes; profile = p } }
+    {
+        Module { profile: p, ..self }
     }
 
     /// Whether it is a CT module, and not a plain one.
@@ -238,6 +254,7 @@ impl<'a> Module<'a> {
     }
 
     /// The type of a local of a defined function; parameters come first.
+    #[inline(always)]
     pub fn local(&self, f: u32, i: u32) -> ValType
         requires { i < length (locals_named (tree self.now) f) }
         ensures { slice_get (locals_named (tree self.now) f) i ≡ Some result }
@@ -292,6 +309,7 @@ impl<'a> Module<'a> {
     }
 
     /// The type that an index names; an untrusted one without parameters and result where it names none.
+    #[inline(always)]
     fn type_or_none(&self, index: u32) -> FuncType<'a>
         ensures { result ≡ type_named (tree self.now) index }
     {
@@ -306,6 +324,7 @@ impl<'a> Module<'a> {
     }
 
     /// The bytes of a defined function's parameters.
+    #[inline(always)]
     fn params_of(&self, f: u32) -> &'a [u8]
         requires { (function : Function Label) × (function_named (tree self.now) f ≡ Some function) }
         ensures types { (function : Function Label) → function_named (tree self.now) f ≡ Some function

@@ -4,7 +4,7 @@ ghost use Rattle.indexmap.specs.IndexMap.{get_by};
 ghost use Rattle.ctw_ops.specs.declared.types.Label.{Label};
 ghost use Rattle.ctw_ops.specs.Tree.{Module as Tree, imported_functions, imported_globals, memory_among as memory_in, table_among as table_in};
 ghost use Rattle.ctw_module.specs.Spelled.{Spells};
-ghost use Rattle.ctw_module.specs.Trees.{Lent, tree, parts};
+ghost use Rattle.ctw_module.specs.Trees.{Lent, tree, parts, view_of};
 ghost use Rattle.ctw_module.specs.Shown.{constant_of, global_in};
 ghost use Rattle.ctw_module.specs.Lookup.{export_in};
 ghost use Rattle.ctw_module.specs.Gathers.{Gathers};
@@ -16,7 +16,7 @@ use crate::gather::gather;
 use crate::module::Module;
 use crate::types::Global1;
 use ctw_leb::Cursor;
-use ctw_ops::{ExternTag, Limits, MemType};
+use ctw_ops::{ExternTag, Limits, MemType, Profile};
 use indexmap::IndexMap;
 use std::alloc::{AllocError, Global};
 
@@ -112,15 +112,16 @@ fn index<'a>(
     found: Found<'a>,
 ) -> Result<Module<'a>, AllocError>
     requires short { length bytes.now < 2 ^ 32 }
-    requires spelled { Spells bytes.now (tree (record { bytes = bytes.now })) }
-    requires ct { ct ≡ (tree (record { bytes = bytes.now })).ct }
-    requires gathers { Gathers found (parts (record { bytes = bytes.now })) }
-    ensures { IfOk result (λ view. view ≡ record { bytes = bytes.now }) }
+    requires spelled { Spells bytes.now (tree (view_of bytes.now)) }
+    requires ct { ct ≡ (tree (view_of bytes.now)).ct }
+    requires gathers { Gathers found (parts (view_of bytes.now)) }
+    ensures { IfOk result (λ view. view ≡ view_of bytes.now) }
 {
     let functions = all_functions(alloc, &found.imports, &found.uses)?;
     let globals = all_globals(alloc, &found.imports, &found.globals)?;
     let names = names_of(alloc, &found.exports)?;
     Ok(Module {
+        profile: Profile::Divide,
         bytes,
         ct,
         imported: functions.len() - found.uses.len(),
@@ -147,7 +148,7 @@ fn index<'a>(
 pub fn view<'a>(alloc: Global, bytes: &'a [u8]) -> Result<Module<'a>, AllocError>
     requires short { length bytes.now < 2 ^ 32 }
     requires spelled { (m : Tree Label) × Spells bytes.now m }
-    ensures bytes { IfOk result (λ view. view ≡ record { bytes = bytes.now }) }
+    ensures bytes { IfOk result (λ view. view ≡ view_of bytes.now) }
     ensures tree { IfOk result (λ view. (m : Tree Label) → Spells bytes.now m → tree view ≡ m) }
 {
     let ct = bytes[6] != 0;

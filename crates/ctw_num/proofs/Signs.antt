@@ -1,5 +1,5 @@
 -- The standard's signed interpretation and its divisions, against the machine's words for them.
-use Rattle.std.proofs.Common.{◌≡◌, ℕ, suc, ◌-◌, ◌^◌, ◌<◌, Bool, true, false, ltb, cond, ℤ, ◌-ℤ◌, pos, negsuc, refl, sym, ap, ◌∙◌, subst, arith, w32, w64, SFits, pos_of_ne-zero}
+use Rattle.std.proofs.Common.{◌≡◌, ℕ, suc, ◌-◌, ◌^◌, ◌<◌, Bool, true, false, ltb, cond, ℤ, ◌-ℤ◌, pos, negsuc, refl, sym, ap, ◌∙◌, subst, arith, w8, w16, w32, w64, SFits, pos_of_ne-zero}
 use mir.Val.{sel}
 use Rattle.std.specs.Int.{cast_signed, cast_unsigned}
 use Rattle.std.proofs.lemmas.Int.{ints, of_z-to_z, to_z-of_z}
@@ -12,6 +12,14 @@ cond_of false x y z e = e
 pub signed32 : (n : ℕ) → n < 2 ^ 32 → cast_signed w32 n ≡ signed 32 n
 unfolding signed
 signed32 n h = cond_of (ltb n (2 ^ 31)) (pos n) (negsuc (2 ^ 32 - suc n)) (pos n -ℤ pos (2 ^ 32)) (omega (arith, ints))
+
+pub signed8 : (n : ℕ) → n < 2 ^ 8 → cast_signed w8 n ≡ signed 8 n
+unfolding signed
+signed8 n h = cond_of (ltb n (2 ^ 7)) (pos n) (negsuc (2 ^ 8 - suc n)) (pos n -ℤ pos (2 ^ 8)) (omega (arith, ints))
+
+pub signed16 : (n : ℕ) → n < 2 ^ 16 → cast_signed w16 n ≡ signed 16 n
+unfolding signed
+signed16 n h = cond_of (ltb n (2 ^ 15)) (pos n) (negsuc (2 ^ 16 - suc n)) (pos n -ℤ pos (2 ^ 16)) (omega (arith, ints))
 
 pub signed64 : (n : ℕ) → n < 2 ^ 64 → cast_signed w64 n ≡ signed 64 n
 unfolding signed
@@ -30,6 +38,12 @@ unsigned64 (negsuc n) = refl
 -- a signed view that the code made and reads again
 pub seen32 : (a : ℕ) (j : ℤ) → a < 2 ^ 32 → j ≡ cast_signed w32 a → cast_signed w32 (cast_unsigned w32 j) ≡ signed 32 a
 seen32 a j h e = ap (λ z. cast_signed w32 (cast_unsigned w32 z)) e ∙ ap (cast_signed w32) (of_z-to_z w32 a h) ∙ signed32 a h
+
+pub seen8 : (a : ℕ) (j : ℤ) → a < 2 ^ 8 → j ≡ cast_signed w8 a → cast_signed w8 (cast_unsigned w8 j) ≡ signed 8 a
+seen8 a j h e = ap (λ z. cast_signed w8 (cast_unsigned w8 z)) e ∙ ap (cast_signed w8) (of_z-to_z w8 a h) ∙ signed8 a h
+
+pub seen16 : (a : ℕ) (j : ℤ) → a < 2 ^ 16 → j ≡ cast_signed w16 a → cast_signed w16 (cast_unsigned w16 j) ≡ signed 16 a
+seen16 a j h e = ap (λ z. cast_signed w16 (cast_unsigned w16 z)) e ∙ ap (cast_signed w16) (of_z-to_z w16 a h) ∙ signed16 a h
 
 pub seen64 : (a : ℕ) (j : ℤ) → a < 2 ^ 64 → j ≡ cast_signed w64 a → cast_signed w64 (cast_unsigned w64 j) ≡ signed 64 a
 seen64 a j h e = ap (λ z. cast_signed w64 (cast_unsigned w64 z)) e ∙ ap (cast_signed w64) (of_z-to_z w64 a h) ∙ signed64 a h

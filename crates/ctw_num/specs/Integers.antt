@@ -1,17 +1,11 @@
--- The operations on integers (W3C WebAssembly Core 1.0, sections 4.3.1, 4.3.2 and 4.3.4).
+-- The operations on integers (W3C WebAssembly Core 1.0, sections 4.3.1, 4.3.2 and 4.3.4, and the sign extensions).
 -- N is a width in bits, and an integer of N bits is a number below 2^N.
 use Rattle.std.specs.Prelude.{ℕ, zero, suc, ◌+◌, ◌-◌, ◌*◌, ◌/◌, ◌%◌, ◌^◌, min, max, Bool, true, false, not, ◌==◌, nat_lt, nat_le, if◌then◌else◌, List, [], ◌∷◌, count_by, ℤ, pos, negsuc, neg_ℤ, ◌-ℤ◌, unsigned_abs, int_lt, int_le, Result, Ok, Err}
 use Rattle.std.specs.List.{prefix_len, suffix_len}
 use Rattle.std.specs.Ordering.{int_eq}
-use Rattle.ctw_ops.specs.declared.types.Width.{Width}
-use Rattle.ctw_ops.specs.declared.types.Width.TheVariants.{W32, W64}
+pub use Rattle.ctw_ops.specs.Types.{bit_width}
 use Rattle.ctw_num.specs.declared.trap.NumTrap.{NumTrap}
 use Rattle.ctw_num.specs.declared.trap.NumTrap.TheVariants.{DivZero, DivOverflow}
-
--- how many bits an integer of this width has
-abbrev pub bit_width : Width → ℕ
-bit_width W32 = 32
-bit_width W64 = 64
 
 -- ---- bits (section 4.3.1)
 
@@ -177,3 +171,7 @@ extend_u n = n
 
 abbrev pub extend_s : ℕ → ℕ → ℕ → ℕ
 extend_s M N n = unsigned N (signed M n)
+
+-- the low M of N bits, read as signed (of the sign extensions, which came after 1.0)
+abbrev pub iextend_s : ℕ → ℕ → ℕ → ℕ
+iextend_s M N n = extend_s M N (wrap M n)

@@ -1,9 +1,8 @@
-// Integer arithmetic as WebAssembly defines it.
+//! Integer arithmetic as WebAssembly defines it.
 #![tactic(auto)]
 
 mod apply;
-#[cfg(test)]
-mod tests;
+pub mod laws;
 mod trap;
 mod width32;
 mod width64;

@@ -1,5 +1,5 @@
 -- The typing of a function's body in its module (W3C WebAssembly Core 1.0, section 3.4.1).
-use Rattle.std.specs.Prelude.{List, [], ◌∷◌, ◌++◌, option_map, map, is_some}
+use Rattle.std.specs.Prelude.{[], ◌∷◌, ◌++◌, option_map, map, is_some}
 use Rattle.ctw_ops.specs.declared.types.Label.{Label}
 use Rattle.ctw_ops.specs.declared.types.Label.TheVariants.{Public, Secret}
 use Rattle.ctw_ops.specs.Tree.{Module, Function, memory_among, table_among, function_entries, global_types, function_types, type_named}
@@ -19,6 +19,7 @@ context_of m f = record {
   labels = (type_named m f.type).result ∷ [];
   public = Public;
   secret = Secret;
+  profile = m.profile;
 }
 
 -- the body has its function's type

@@ -6,7 +6,7 @@ use Rattle.ctw_ops.specs.declared.types.Width.{Width}
 use Rattle.ctw_ops.specs.declared.types.Width.TheVariants.{W32, W64}
 use Rattle.ctw_ops.specs.declared.types.Trust.{Trust}
 use Rattle.ctw_ops.specs.declared.types.Trust.TheVariants.{Untrusted, Trusted}
-use Rattle.ctw_ops.specs.Types.{ValueType, FunctionType}
+use Rattle.ctw_ops.specs.Types.{ValueType, FunctionType, erase_function_type}
 
 abbrev pub same_label : Label → Label → Bool
 same_label Public Public = true
@@ -40,3 +40,7 @@ same_result _ _ = false
 -- trust, parameters and result are equal, labels too
 abbrev pub same_function_type : FunctionType Label → FunctionType Label → Bool
 same_function_type f g = same_trust f.trust g.trust && (same_types f.params g.params && same_result f.result g.result)
+
+-- whether two types differ in labels and trust alone
+abbrev pub erases_alike : FunctionType Label → FunctionType Label → Bool
+erases_alike f g = same_function_type (erase_function_type f) (erase_function_type g)

@@ -1,9 +1,10 @@
 -- The erased module: plain, with every label public, without trust and variants, and without classify and declassify.
-use Rattle.std.specs.Prelude.{◌≡◌, ◌<◌, ℕ, false, List, map, filter_map, Option, Some, None, option_map, option_and_then, unwrap_or, slice_get}
+use Rattle.std.specs.Prelude.{ℕ, false, List, [], ◌∷◌, map, filter_map, Option, Some, None, option_map, option_and_then, unwrap_or, slice_get}
 use Rattle.ctw_ops.specs.declared.types.Label.{Label}
 use Rattle.ctw_ops.specs.declared.types.Label.TheVariants.{Public}
 use Rattle.ctw_ops.specs.Types.{FunctionType, VariableType, MemoryType, erase_value_type, erase_function_type}
-use Rattle.ctw_ops.specs.Code.{Leaf, CallIndirect, Select, Load, Store, Const, Numeric, Classify, Declassify, Code, Stop, Then, Block, Loop, If, IfElse}
+use Rattle.ctw_ops.specs.Code.{Leaf, CallIndirect, Classify, Declassify, Code}
+use Rattle.ctw_ops.specs.TagMaps.{leaf_to, code_to}
 use Rattle.ctw_ops.specs.Tree.{TypeEntry, Extern, ImportedFunction, ImportedTable, ImportedMemory, ImportedGlobal, Import, Function, Constant, Number, ValueOf, Global, Element, Segment, Module}
 
 -- ---- type entries
@@ -20,34 +21,22 @@ erase_entries entries = filter_map (λ entry. kept_entry entry.base entry.type) 
 abbrev pub base_of : {S : Type 0} → List (TypeEntry S) → ℕ → ℕ
 base_of entries index = unwrap_or (option_and_then (λ entry. entry.base) (slice_get entries index)) index
 
--- variants stand after all other entries, and each names one of these that erases alike
-pub record VariantsFit (entries : List (TypeEntry Label)) : Type 0 where
-  pub order : (x y : ℕ) (entry variant : TypeEntry Label) (base : ℕ) → slice_get entries x ≡ Some entry → entry.base ≡ None → slice_get entries y ≡ Some variant → variant.base ≡ Some base → x < y
-  pub bases : (y : ℕ) (variant : TypeEntry Label) (base : ℕ) → slice_get entries y ≡ Some variant → variant.base ≡ Some base
-      → (entry : TypeEntry Label) × (slice_get entries base ≡ Some entry) × (entry.base ≡ None) × (erase_function_type variant.type ≡ erase_function_type entry.type)
-
 -- ---- instructions
 
--- a leaf in front of erased instructions; an indirect call names the base of its type
-abbrev pub erase_leaf : List (TypeEntry Label) → Leaf Label → Code Label → Code Label
-erase_leaf entries (CallIndirect index) rest = Then (CallIndirect (base_of entries index)) rest
-erase_leaf entries (Select l) rest = Then (Select Public) rest
-erase_leaf entries (Load w l bytes signed align offset) rest = Then (Load w Public bytes signed align offset) rest
-erase_leaf entries (Store w l bytes align offset) rest = Then (Store w Public bytes align offset) rest
-erase_leaf entries (Const w l bits) rest = Then (Const w Public bits) rest
-erase_leaf entries (Numeric op l) rest = Then (Numeric op Public) rest
-erase_leaf entries (Classify w) rest = rest
-erase_leaf entries (Declassify w) rest = rest
-erase_leaf entries leaf rest = Then leaf rest
+-- the label of erased code
+abbrev pub erase_label : Label → Label
+erase_label l = Public
+
+-- what a leaf becomes: nothing for classify and declassify; an indirect call names the base of its type
+abbrev pub erase_leaf : List (TypeEntry Label) → Leaf Label → List (Leaf Label)
+erase_leaf entries (CallIndirect index) = CallIndirect (base_of entries index) ∷ []
+erase_leaf entries (Classify w) = []
+erase_leaf entries (Declassify w) = []
+erase_leaf entries leaf = leaf_to erase_label leaf ∷ []
 
 -- a sequence of a module with these type entries
 abbrev pub erase_code : List (TypeEntry Label) → Code Label → Code Label
-erase_code entries Stop = Stop
-erase_code entries (Then leaf rest) = erase_leaf entries leaf (erase_code entries rest)
-erase_code entries (Block t body rest) = Block (option_map erase_value_type t) (erase_code entries body) (erase_code entries rest)
-erase_code entries (Loop t body rest) = Loop (option_map erase_value_type t) (erase_code entries body) (erase_code entries rest)
-erase_code entries (If t arm rest) = If (option_map erase_value_type t) (erase_code entries arm) (erase_code entries rest)
-erase_code entries (IfElse t arm other rest) = IfElse (option_map erase_value_type t) (erase_code entries arm) (erase_code entries other) (erase_code entries rest)
+erase_code entries = code_to erase_label (erase_leaf entries)
 
 -- ---- modules
 
@@ -86,6 +75,7 @@ erase_segment s = record { memory = s.memory; offset = erase_constant s.offset; 
 abbrev pub erase_module : Module Label → Module Label
 erase_module m = record {
   ct = false;
+  profile = m.profile;
   types = erase_entries m.types;
   imports = map (erase_import m.types) m.imports;
   functions = map (erase_function m.types) m.functions;

@@ -1,11 +1,16 @@
 pub mod ValueType
 pub mod Types
+pub mod Limits
 pub mod Numeric
+pub mod Forms
 pub mod Code
 pub mod Tree
 pub mod Typing
+pub mod TagMaps
 pub mod Bodies
 pub mod Segments
+pub mod Once
+pub mod Plain
 pub mod Valid
 pub mod Cut
 pub mod CutTyping

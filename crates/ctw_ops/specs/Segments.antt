@@ -1,7 +1,7 @@
 -- What is left of a body from a place on, as segments, and the tree that opcodes stand for.
 use Rattle.std.specs.Prelude.{List, [], ◌∷◌, Option, Some, None}
 use Rattle.ctw_ops.specs.ValueType.{ValueType}
-use Rattle.ctw_ops.specs.Code.{Leaf, Code, Stop, Then, Block, Loop, If, IfElse, Shape, OfBlock, OfLoop, OfIf, Closer, ByEnd, ByElse, Op, Plain, Opens, Closes, onto}
+use Rattle.ctw_ops.specs.Code.{Code, Stop, Then, Block, Loop, If, IfElse, Shape, OfBlock, OfLoop, OfIf, Closer, ByEnd, ByElse, Op, Plain, Opens, Closes, onto}
 
 -- the rest of a sequence, and what closes it
 pub record Segment (S : Type 0) : Type 0 where

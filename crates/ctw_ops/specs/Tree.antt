@@ -1,6 +1,7 @@
 -- The tree of a module (W3C WebAssembly Core 1.0, section 2.5, with the versions, variants and labels of CT modules).
 use Rattle.std.specs.Prelude.{ℕ, Bool, List, [], ◌∷◌, ◌++◌, map, Option, Some, None, unwrap_or, slice_get}
 use Rattle.ctw_ops.specs.declared.types.Trust.TheVariants.{Untrusted}
+use Rattle.ctw_ops.specs.declared.numeric.Profile.{Profile}
 use Rattle.ctw_ops.specs.declared.types.Limits.{Limits}
 use Rattle.ctw_ops.specs.declared.types.ExternTag.{ExternTag}
 use Rattle.ctw_ops.specs.Types.{ValueType, FunctionType, VariableType, MemoryType}
@@ -66,6 +67,7 @@ pub record Custom : Type 0 where
 -- `ct` tells a CT module from a plain one; functions, table, memory and globals are the defined ones
 pub record Module (S : Type 0) : Type 0 where
   pub ct : Bool
+  pub profile : Profile
   pub types : List (TypeEntry S)
   pub imports : List (Import S)
   pub functions : List (Function S)
@@ -77,6 +79,10 @@ pub record Module (S : Type 0) : Type 0 where
   pub elements : List (Element S)
   pub segments : List (Segment S)
   pub customs : List Custom
+
+-- the module under another profile
+abbrev pub under : {S : Type 0} → Profile → Module S → Module S
+under profile m = record m { profile = profile }
 
 -- ---- the index spaces, imports first (section 2.5.1)
 

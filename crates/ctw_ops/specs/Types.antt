@@ -1,5 +1,5 @@
 -- Labels and types (W3C WebAssembly Core 1.0, section 2.3, and the types of the CT-Wasm paper).
-use Rattle.std.specs.Prelude.{◌≡◌, ℕ, Bool, true, false, List, [], ◌∷◌, Option, Some, None, option_map, map, filter_map, ◌==◌, if◌then◌else◌, is_some}
+use Rattle.std.specs.Prelude.{◌≡◌, ◌<◌, ◌^◌, ℕ, Bool, List, [], ◌∷◌, Option, Some, None, option_map, map, ◌==◌, if◌then◌else◌, is_some}
 use Rattle.ctw_ops.specs.declared.types.Label.{Label}
 use Rattle.ctw_ops.specs.declared.types.Label.TheVariants.{Public, Secret}
 use Rattle.ctw_ops.specs.declared.types.Width.{Width}
@@ -16,6 +16,15 @@ IsBelow _ _ = Unit {0}
 
 abbrev pub value_type : {S : Type 0} → Width → S → ValueType S
 value_type width tag = record { width = width; tag = tag }
+
+-- how many bits an integer of this width has
+abbrev pub bit_width : Width → ℕ
+bit_width W32 = 32
+bit_width W64 = 64
+
+-- the numbers of a width
+abbrev pub FitsWidth : Width → ℕ → Type 0
+FitsWidth width n = n < 2 ^ bit_width width
 
 -- a function type: a trust, the parameters' types from the first on, and perhaps a result's
 pub record FunctionType (S : Type 0) : Type 0 where
@@ -44,6 +53,10 @@ erase_function_type f = record {
   params = map erase_value_type f.params;
   result = option_map erase_value_type f.result;
 }
+
+-- two function types that differ in labels and trust alone
+abbrev pub EraseAlike : FunctionType Label → FunctionType Label → Type 0
+EraseAlike f g = erase_function_type f ≡ erase_function_type g
 
 -- the byte of a value type in a file
 abbrev pub type_byte : ValueType Label → ℕ

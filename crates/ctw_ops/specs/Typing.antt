@@ -1,13 +1,15 @@
 -- The typing of instruction sequences (W3C WebAssembly Core 1.0, section 3.3, with the labels and trust of the CT-Wasm paper).
 -- A stack is a list with the last operand first; a row of the table is written as in the standard, the first operand first.
-use Rattle.std.specs.Prelude.{◌≡◌, ◌≤◌, ◌^◌, ℕ, Bool, true, List, [], ◌∷◌, ◌++◌, Option, Some, None, slice_get, All, replicate}
+use Rattle.std.specs.Prelude.{◌≡◌, ◌≤◌, ◌^◌, Bool, true, List, [], ◌∷◌, ◌++◌, Option, Some, None, slice_get, All, replicate}
 use Rattle.ctw_ops.specs.declared.types.Width.{Width}
 use Rattle.ctw_ops.specs.declared.types.Width.TheVariants.{W32}
 use Rattle.ctw_ops.specs.declared.types.Trust.{Trust}
 use Rattle.ctw_ops.specs.declared.types.Trust.TheVariants.{Untrusted, Trusted}
 use Rattle.ctw_ops.specs.declared.numeric.NumSig.{NumSig}
-use Rattle.ctw_ops.specs.Types.{ValueType, FunctionType, VariableType, value_type}
-use Rattle.ctw_ops.specs.Numeric.{num_sig_of, is_timed}
+use Rattle.ctw_ops.specs.Types.{ValueType, FunctionType, VariableType, FitsWidth, value_type}
+use Rattle.ctw_ops.specs.declared.numeric.Profile.{Profile}
+use Rattle.ctw_ops.specs.Numeric.{num_sig_of, leaks}
+use Rattle.ctw_ops.specs.Forms.{is_load, is_store}
 use Rattle.ctw_ops.specs.Code.{Leaf, Unreachable, Nop, Br, BrIf, BrTable, Return, Call, CallIndirect, Drop, Select, LocalGet, LocalSet, LocalTee, GlobalGet, GlobalSet, Load, Store, MemorySize, MemoryGrow, Const, Numeric, Classify, Declassify, Code, Stop, Then, Block, Loop, If, IfElse}
 
 -- What a body may name, and the open labels, innermost first. A label has the type that a branch to it carries, none for a loop's.
@@ -24,6 +26,7 @@ pub record Context (S : Type 0) : Type 0 where
   pub labels : List (Option (ValueType S))
   pub public : S
   pub secret : S
+  pub profile : Profile
 
 abbrev pub optional : {A : Type 0} → Option A → List A
 optional None = []
@@ -74,12 +77,15 @@ Row C (LocalSet x) a b = (t : ValueType _) × (slice_get C.locals x ≡ Some t) 
 Row C (LocalTee x) a b = (t : ValueType _) × (slice_get C.locals x ≡ Some t) × Moves (t ∷ []) (t ∷ []) a b
 Row C (GlobalGet x) a b = (g : VariableType _) × (slice_get C.globals x ≡ Some g) × Moves [] (g.value ∷ []) a b
 Row C (GlobalSet x) a b = (g : VariableType _) × (slice_get C.globals x ≡ Some g) × (g.mutable ≡ true) × Moves (g.value ∷ []) [] a b
-Row C (Load w l bytes signed align offset) a b = (C.memory ≡ Some l) × (2 ^ align ≤ bytes) × Moves (i32 C ∷ []) (value_type w l ∷ []) a b
-Row C (Store w l bytes align offset) a b = (C.memory ≡ Some l) × (2 ^ align ≤ bytes) × Moves (i32 C ∷ value_type w l ∷ []) [] a b
+Row C (Load w l bytes signed align offset) a b =
+    (is_load w bytes signed ≡ true) × (C.memory ≡ Some l) × (2 ^ align ≤ bytes) × Moves (i32 C ∷ []) (value_type w l ∷ []) a b
+Row C (Store w l bytes align offset) a b =
+    (is_store w bytes ≡ true) × (C.memory ≡ Some l) × (2 ^ align ≤ bytes) × Moves (i32 C ∷ value_type w l ∷ []) [] a b
 Row C MemorySize a b = (l : _) × (C.memory ≡ Some l) × Moves [] (i32 C ∷ []) a b
 Row C MemoryGrow a b = (l : _) × (C.memory ≡ Some l) × Moves (i32 C ∷ []) (i32 C ∷ []) a b
-Row C (Const w l bits) a b = Moves [] (value_type w l ∷ []) a b
-Row C (Numeric op l) a b = (is_timed op ≡ true → l ≡ C.public) × Moves (operands (num_sig_of op) l) (value_type (num_sig_of op).result l ∷ []) a b
+Row C (Const w l bits) a b = FitsWidth w bits × Moves [] (value_type w l ∷ []) a b
+Row C (Numeric op l) a b =
+    (sig : NumSig) × (num_sig_of op ≡ Some sig) × (leaks op C.profile ≡ true → l ≡ C.public) × Moves (operands sig l) (value_type sig.result l ∷ []) a b
 Row C (Classify w) a b = Moves (value_type w C.public ∷ []) (value_type w C.secret ∷ []) a b
 Row C (Declassify w) a b = (C.trust ≡ Trusted) × Moves (value_type w C.secret ∷ []) (value_type w C.public ∷ []) a b
 

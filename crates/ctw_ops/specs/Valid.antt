@@ -1,14 +1,17 @@
 -- Valid modules (W3C WebAssembly Core 1.0, section 3.4, with the variants of CT modules).
-use Rattle.std.specs.Prelude.{◌≡◌, ◌≢◌, ◌≤◌, ℕ, Bool, false, List, [], ◌++◌, Option, Some, None, IsSome, IfSome, slice_get, All, AllPairs}
+use Rattle.std.specs.Prelude.{◌≡◌, ◌≢◌, ◌≤◌, ℕ, false, List, [], ◌++◌, length, Option, Some, None, IsSome, IfSome, slice_get, All, AllPairs}
 use Rattle.ctw_ops.specs.declared.types.Label.{Label}
 use Rattle.ctw_ops.specs.declared.types.Label.TheVariants.{Public}
 use Rattle.ctw_ops.specs.declared.types.Width.TheVariants.{W32}
 use Rattle.ctw_ops.specs.declared.types.Limits.{Limits}
 use Rattle.ctw_ops.specs.declared.types.ExternTag.{ExternTag}
 use Rattle.ctw_ops.specs.declared.types.ExternTag.TheVariants.{Func, Table, Memory, Global as GlobalTag}
-use Rattle.ctw_ops.specs.Types.{ValueType, FunctionType, VariableType, MemoryType, value_type, erase_function_type}
-use Rattle.ctw_ops.specs.Tree.{Module, TypeEntry, Extern, ImportedFunction, ImportedTable, ImportedMemory, ImportedGlobal, Import, Function, Constant, Number, ValueOf, Global, Export, Element, Segment, imported_globals, memory_among, table_among, function_entries, global_types, type_named}
+use Rattle.ctw_ops.specs.Types.{ValueType, VariableType, MemoryType, FitsWidth, EraseAlike, value_type}
+use Rattle.ctw_ops.specs.Tree.{Module, TypeEntry, Extern, ImportedFunction, ImportedTable, ImportedMemory, ImportedGlobal, Constant, Number, ValueOf, Global, Element, Segment, imported_globals, memory_among, table_among, function_entries, global_types, type_named}
 use Rattle.ctw_ops.specs.Bodies.{HasItsType}
+use Rattle.ctw_ops.specs.Limits.{most_memory_pages}
+use Rattle.ctw_ops.specs.Once.{all_tables, all_memories}
+use Rattle.ctw_ops.specs.Plain.{IsPlainModule}
 
 abbrev pub IsEntry : TypeEntry Label → Type 0
 IsEntry entry = entry.base ≡ None
@@ -17,7 +20,7 @@ IsEntry entry = entry.base ≡ None
 abbrev pub IsVariant : List (TypeEntry Label) → TypeEntry Label → Type 0
 IsVariant types entry =
     (index : ℕ) × (base : TypeEntry Label) × (entry.base ≡ Some index) × (slice_get types index ≡ Some base) × IsEntry base
-    × (erase_function_type entry.type ≡ erase_function_type base.type)
+    × EraseAlike entry.type base.type
 
 -- variants stand after all other entries
 pub record AreTypes (types : List (TypeEntry Label)) : Type 0 where
@@ -35,13 +38,9 @@ Names things index = IsSome (slice_get things index)
 abbrev pub AreLimits : Limits → Type 0
 AreLimits limits = IfSome limits.max (λ max. limits.min ≤ max)
 
--- the pages of the greatest memory
-unfoldable pub most_pages : ℕ
-most_pages = 65536
-
 -- a memory's sizes (section 3.2.4)
 abbrev pub IsMemory : MemoryType Label → Type 0
-IsMemory t = AreLimits t.limits × (t.limits.min ≤ most_pages) × IfSome t.limits.max (λ max. max ≤ most_pages)
+IsMemory t = AreLimits t.limits × (t.limits.min ≤ most_memory_pages) × IfSome t.limits.max (λ max. max ≤ most_memory_pages)
 
 abbrev pub IsImported : Module Label → Extern Label → Type 0
 IsImported m (ImportedFunction type) = Names m.types type
@@ -95,7 +94,25 @@ pub record IsValidAround (m : Module Label) : Type 0 where
   pub elements : All (IsElement m) m.elements
   pub segments : All (IsSegment m) m.segments
 
+-- ---- what holds of every module that bytes spell
+
+-- the number of a constant expression is one of its type's width
+abbrev pub IsFitting : Constant Label → Type 0
+IsFitting (Number type bits) = FitsWidth type.width bits
+IsFitting (ValueOf global) = Unit {0}
+
+-- There is at most one table and at most one memory, imported or defined, numbers fit their types, and a plain module has no
+-- label, trust, variant, classify or declassify.
+pub record IsFormed (m : Module Label) : Type 0 where
+  pub tables : length (all_tables m) ≤ 1
+  pub memories : length (all_memories m) ≤ 1
+  pub globals : All (λ g. IsFitting g.init) m.globals
+  pub elements : All (λ e. IsFitting e.offset) m.elements
+  pub segments : All (λ s. IsFitting s.offset) m.segments
+  pub plain : m.ct ≡ false → IsPlainModule m
+
 -- a valid module: besides, each body has its function's type
 pub record IsValid (m : Module Label) : Type 0 where
+  pub formed : IsFormed m
   pub around : IsValidAround m
   pub bodies : All (HasItsType m) m.functions

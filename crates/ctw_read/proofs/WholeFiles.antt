@@ -7,7 +7,7 @@ use Rattle.ctw_leb.specs.Grammar.{state_after}
 use Rattle.ctw_module.specs.declared.fault.FormKind.TheVariants.{TooMany, CountMismatch}
 use Rattle.ctw_module.specs.declared.fault.FormFault.{FormFault}
 use Rattle.ctw_module.specs.declared.sections.Seen.{Seen}
-use Rattle.ctw_module.specs.Limits.{most_plain_bytes}
+use Rattle.ctw_ops.specs.Limits.{most_plain_bytes}
 use Rattle.ctw_module.specs.Sections.{Section, nothing_seen, seen_after}
 use Rattle.ctw_module.specs.Spelled.{File, file_of}
 use Rattle.ctw_module.specs.Read.{fault, header_at, is_small, sections_at, file_at}

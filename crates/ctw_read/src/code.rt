@@ -1,6 +1,6 @@
 ghost use Rattle.std.specs.Prelude.{◌≡◌, ◌+◌, ◌≤◌, length, IfOk};
 ghost use Rattle.ctw_leb.specs.Calls.{Finds};
-ghost use Rattle.ctw_module.specs.Limits.{most_locals_of_all};
+ghost use Rattle.ctw_ops.specs.Limits.{most_locals_of_all};
 ghost use Rattle.ctw_module.specs.Sections.{locals_of};
 ghost use Rattle.ctw_module.specs.Spelled.{all_after};
 ghost use Rattle.ctw_module.specs.Read.{label_place as place_of_label, label_at, form_step_at, form_body_at, groups_at, entry_insides_at, code_entry_at, codes_at};
@@ -30,10 +30,18 @@ fn label_place(cursor: &Cursor) -> Option<u32>
 fn refused_label(ct: bool, nesting: &Nesting, cursor: &Cursor) -> Option<u32>
     ensures { result ≡ label_at ct nesting.now cursor.now }
 {
-    if ct || nesting.is_closed() || nesting.is_too_deep(cursor) {
+    if ct {
         return None;
     }
-    label_place(cursor)
+    match label_place(cursor) {
+        Some(place) => {
+            if nesting.is_closed() || nesting.is_too_deep(cursor) {
+                return None;
+            }
+            Some(place)
+        }
+        None => None,
+    }
 }
 
 /// The next instruction of a body.
@@ -55,12 +63,12 @@ fn step(ct: bool, nesting: &mut Nesting, cursor: &mut Cursor) -> Result<(), Read
 }
 
 /// The instructions of a code entry, all of the bytes.
-fn body(alloc: Global, ct: bool, cursor: &mut Cursor) -> Result<(), ReadFault>
+fn body(nesting: &mut Nesting, ct: bool, cursor: &mut Cursor) -> Result<(), ReadFault>
     ensures { Reads (λ u code. Unit {0}) result (form_body_at ct cursor.old) }
 {
-    let mut nesting = Nesting::new(alloc)?;
+    nesting.restart()?;
     'body: while cursor.left() > 0 {
-        step(ct, &mut nesting, cursor)?;
+        step(ct, nesting, cursor)?;
     }
     if nesting.is_closed() {
         return Ok(());
@@ -72,7 +80,7 @@ fn body(alloc: Global, ct: bool, cursor: &mut Cursor) -> Result<(), ReadFault>
 }
 
 /// The locals of a function behind functions with so many, and how many they are with these.
-#[tactic(auto, unfolding(ctw_module::specs::Read::groups_at, ctw_module::specs::Limits::most_locals, ctw_module::specs::Limits::most_locals_of_all))]
+#[tactic(auto, unfolding(ctw_module::specs::Read::groups_at, ctw_ops::specs::Limits::most_locals, ctw_ops::specs::Limits::most_locals_of_all))]
 fn groups(ct: bool, all: u32, cursor: &mut Cursor) -> Result<u32, FormFault>
     requires { all ≤ most_locals_of_all }
     ensures locals { Tells (λ n groups. n ≡ all + length (locals_of groups)) result cursor.new (groups_at ct all cursor.old) }
@@ -91,24 +99,29 @@ fn groups(ct: bool, all: u32, cursor: &mut Cursor) -> Result<u32, FormFault>
 
 /// The locals and the instructions of a function, all of the bytes.
 #[tactic(auto, unfolding(ctw_module::specs::Read::entry_insides_at))]
-fn entry_insides(alloc: Global, ct: bool, all: u32, cursor: &mut Cursor) -> Result<u32, ReadFault>
+fn entry_insides(
+    nesting: &mut Nesting,
+    ct: bool,
+    all: u32,
+    cursor: &mut Cursor,
+) -> Result<u32, ReadFault>
     requires { all ≤ most_locals_of_all }
     ensures entry { Reads (λ n e. n ≡ all_after all e) result (entry_insides_at ct all cursor.old) }
     ensures within { IfOk result (λ n. n ≤ most_locals_of_all) }
 {
     let all = groups(ct, all, cursor)?;
-    body(alloc, ct, cursor)?;
+    body(nesting, ct, cursor)?;
     Ok(all)
 }
 
 /// A code entry behind entries with so many locals, and how many these are with its own.
-fn entry(alloc: Global, ct: bool, all: u32, cursor: &mut Cursor) -> Result<u32, ReadFault>
+fn entry(nesting: &mut Nesting, ct: bool, all: u32, cursor: &mut Cursor) -> Result<u32, ReadFault>
     requires { all ≤ most_locals_of_all }
     ensures entry { ReadsFront (λ n e. n ≡ all_after all e) result cursor.new (code_entry_at ct all cursor.old) }
     ensures within { IfOk result (λ n. n ≤ most_locals_of_all) }
 {
     let mut window = window(cursor)?;
-    match entry_insides(alloc, ct, all, &mut window) {
+    match entry_insides(nesting, ct, all, &mut window) {
         Ok(all) => Ok(all),
         Err(fault) => Err(inside_fault(fault)),
     }
@@ -138,8 +151,9 @@ pub fn codes(alloc: Global, ct: bool, owed: u32, cursor: &mut Cursor) -> Result<
         });
     }
     let mut all = 0;
+    let mut nesting = Nesting::new(alloc)?;
     'entries: for _ in 0..count {
-        all = entry(alloc, ct, all, cursor)?;
+        all = entry(&mut nesting, ct, all, cursor)?;
     }
     Ok(())
 }

@@ -67,7 +67,7 @@ fn header(cursor: &mut Cursor) -> Result<bool, FormFault>
 }
 
 /// Whether a module may have so many bytes.
-#[tactic(auto, unfolding(ctw_module::specs::Limits::most_plain_bytes))]
+#[tactic(auto, unfolding(ctw_ops::specs::Limits::most_plain_bytes))]
 fn is_small(ct: bool, size: usize) -> bool
     ensures { result ≡ small ct size }
 {

@@ -5,7 +5,7 @@ ghost use Rattle.std.specs.Prelude.{◌≡◌, ◌<◌, ◌^◌, length, IfOk, I
 ghost use Rattle.ctw_ops.specs.declared.types.Label.{Label};
 ghost use Rattle.ctw_ops.specs.Tree.{Module as Tree};
 ghost use Rattle.ctw_module.specs.Spelled.{Spells, module_in};
-ghost use Rattle.ctw_module.specs.Trees.{tree};
+ghost use Rattle.ctw_module.specs.Trees.{tree, view_of};
 ghost use Rattle.ctw_module.specs.Read.{file_at};
 ghost use Rattle.ctw_read.specs.Calls.{Reads};
 
@@ -33,8 +33,8 @@ pub fn read<'a>(alloc: Global, bytes: &'a [u8]) -> Result<Module<'a>, ReadFault>
     ensures spelled { IfOk result (λ m. Spells bytes.now (tree m)) }
     // Bytes that spell a module are refused for want of memory alone.
     ensures found { (m : Tree Label) → Spells bytes.now m → IsOkUnless result ReadFault.NoMemory }
-    // The bytes of the view are these.
-    ensures bytes { IfOk result (λ m. m.bytes ≡ bytes.now) }
+    // It is a view of these bytes, under the profile Divide.
+    ensures view { IfOk result (λ m. m ≡ view_of bytes.now) }
 {
     check(alloc, bytes)?;
     match view(alloc, bytes) {
@@ -42,6 +42,3 @@ pub fn read<'a>(alloc: Global, bytes: &'a [u8]) -> Result<Module<'a>, ReadFault>
         Err(_) => Err(ReadFault::NoMemory),
     }
 }
-
-#[cfg(test)]
-mod tests;

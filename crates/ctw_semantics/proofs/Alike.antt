@@ -10,7 +10,7 @@ use Rattle.ctw_script.specs.declared.event.Event.{Event}
 use Rattle.ctw_semantics.specs.Values.{Value, value}
 use Rattle.ctw_semantics.specs.Answers.{Answer, Reduced, quiet, noting, stuck, given, provided, pop, pop_any, pops, carry}
 use Rattle.ctw_semantics.specs.Seen.{seen_number, seen_value, seen_answer}
-use Rattle.ctw_semantics.proofs.Tests.{same_type_is}
+use Rattle.ctw_ops.proofs.EqualLaws.{same_type_is}
 
 -- both release or neither does, and where they release the same number they look the same
 pub record Alike (r q : Reduced) : Type 0 where
@@ -44,6 +44,18 @@ given_alike f (Some x) None go go' e h = cc
 pub same_alike : {A : Type 0} (o : Option A) (go go' : A → Reduced) → ((x : A) → Alike (go x) (go' x)) → Alike (given o go) (given o go')
 same_alike None go go' h = stuck_alike
 same_alike (Some x) go go' h = h x
+
+-- the same, with what it names
+pub named_alike : {A : Type 0} (o : Option A) (go go' : A → Reduced) → ((x : A) → o ≡ Some x → Alike (go x) (go' x)) → Alike (given o go) (given o go')
+named_alike None go go' h = stuck_alike
+named_alike (Some x) go go' h = h x refl
+
+-- what is there in both runs or in neither
+pub both_alike : {A : Type 0} (o p : Option A) (go go' : A → Reduced) → is_some o ≡ is_some p → ((x y : A) → o ≡ Some x → p ≡ Some y → Alike (go x) (go' y)) → Alike (given o go) (given p go')
+both_alike None None go go' e h = stuck_alike
+both_alike (Some x) (Some y) go go' e h = h x y refl refl
+both_alike None (Some y) go go' e h = cc
+both_alike (Some x) None go go' e h = cc
 
 pub equal_alike : {A : Type 0} (o q : Option A) (go go' : A → Reduced) → o ≡ q → ((x : A) → Alike (go x) (go' x)) → Alike (given o go) (given q go')
 equal_alike o q go go' e h = subst (λ q. Alike (given o go) (given q go')) e (same_alike o go go' h)

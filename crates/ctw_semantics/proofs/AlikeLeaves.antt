@@ -1,5 +1,5 @@
 -- One reduction of agreeing states, instruction by instruction.
-use Rattle.std.proofs.Common.{◌≡◌, ℕ, zero, suc, ◌+◌, ◌*◌, ◌/◌, Bool, true, false, List, [], ◌∷◌, ◌++◌, map, length, Option, Some, None, slice_get, slice_set, Result, Ok, Err, IsOk, refl, sym, ap, ap₂, ◌∙◌, subst, ◌==◌, nat_le, cond}
+use Rattle.std.proofs.Common.{◌≡◌, ℕ, zero, suc, ◌+◌, ◌*◌, ◌/◌, Bool, true, false, ◌||◌, List, [], ◌∷◌, ◌++◌, map, length, Option, Some, None, slice_get, slice_set, Result, Ok, Err, IsOk, refl, sym, ap, ap₂, ◌∙◌, subst, ◌==◌, nat_le, cond}
 use Rattle.std.proofs.lemmas.List.{map-set}
 use Rattle.ctw_ops.specs.declared.types.Label.{Label}
 use Rattle.ctw_ops.specs.declared.types.Label.TheVariants.{Public, Secret}
@@ -7,23 +7,28 @@ use Rattle.ctw_ops.specs.declared.types.Width.{Width}
 use Rattle.ctw_ops.specs.declared.types.Width.TheVariants.{W32}
 use Rattle.ctw_ops.specs.Types.{ValueType, FunctionType, value_type}
 use Rattle.ctw_ops.specs.Equal.{same_label, same_function_type}
-use Rattle.ctw_ops.specs.Numeric.{num_sig_of, is_timed}
+use Rattle.ctw_ops.specs.declared.numeric.NumSig.{NumSig}
+use Rattle.ctw_ops.specs.declared.numeric.Profile.{Profile}
+use Rattle.ctw_ops.specs.Numeric.{num_sig_of, is_timed, leaks}
+use Rattle.ctw_ops.specs.Limits.{page_size}
 use Rattle.ctw_ops.specs.Code.{Leaf, Unreachable, Nop, Br, BrIf, BrTable, Return, Call, CallIndirect, Drop, Select, LocalGet, LocalSet, LocalTee, GlobalGet, GlobalSet, Load, Store, MemorySize, MemoryGrow, Const, Numeric, Classify, Declassify, Code, Stop, Then, Block, Loop, If, IfElse}
 use Rattle.ctw_num.specs.declared.trap.NumTrap.{NumTrap}
-use Rattle.ctw_num.specs.Integers.{bit_width, wrap}
 use Rattle.ctw_num.specs.Values.{value1, value2}
 use Rattle.ctw_num.proofs.Traps.{untimed}
+use Rattle.ctw_num.proofs.Values.{value1_some, value2_some}
+use Rattle.std.proofs.lemmas.Option.{same_Some}
 use Rattle.ctw_script.specs.declared.event.Event.{Event}
 use Rattle.ctw_script.specs.declared.event.Event.TheVariants as Events
 use Rattle.ctw_semantics.specs.Values.{Value, value, i32}
 use Rattle.ctw_semantics.specs.Stores.{Memory, Global, Storage, number_at, bytes_of_number, written_at, pages, may_grow, grown}
 use Rattle.ctw_semantics.specs.Instances.{FunctionInstance, Functions}
-use Rattle.ctw_semantics.specs.Activations.{Open, Frame, Activation, labels_weight, weight, most_weight}
+use Rattle.ctw_ops.specs.Limits.{most_weight}
+use Rattle.ctw_semantics.specs.Activations.{Open, Frame, Activation, labels_weight, weight}
 use Rattle.ctw_semantics.specs.Answers.{Answer, Goes, Ended, Trapped, Stuck, Reduced, quiet, noting}
 use Rattle.ctw_semantics.specs.Machine.{Here, innermost, put, with_local, branch, pass, table_place, call_entry, memory_of, outcome, showing, numeric, leaf, choose, next, within_weight, limited, here, in_frame, red}
 use Rattle.ctw_semantics.specs.Seen.{seen_number, seen_bytes, seen_value, seen_memory, seen_global, seen_storage, seen_open, seen_frame, seen, seen_answer, Agree}
-use Rattle.ctw_semantics.proofs.Tests.{same_label_is}
-use Rattle.ctw_semantics.proofs.Alike.{Alike, stuck_alike, quiet_alike, noting_alike, provided_alike, given_alike, same_alike, equal_alike, looks_alike, number_alike, value_alike, pop_alike, pop_any_alike, pop_public_alike, carry_alike, cond_alike, cond_seen, computed, pushed}
+use Rattle.ctw_ops.proofs.EqualLaws.{same_label_is}
+use Rattle.ctw_semantics.proofs.Alike.{Alike, stuck_alike, quiet_alike, noting_alike, provided_alike, given_alike, same_alike, named_alike, both_alike, equal_alike, looks_alike, number_alike, value_alike, pop_alike, pop_any_alike, pop_public_alike, carry_alike, cond_alike, cond_seen, pushed}
 use Rattle.ctw_semantics.proofs.AlikePlaces.{Places, put_alike, enter_alike, labels_here, goes_alike, finish_alike, leave_alike, branch_alike, pass_alike, invoke_alike}
 use Rattle.ctw_semantics.proofs.AlikeStores.{same_length, same_bytes, read_alike, written_alike, grown_alike, may_grow_alike, with_number_alike, with_bytes_alike}
 
@@ -36,6 +41,21 @@ selected_alike Public n m x x' y y' q en ey ex =
     let b : x ≡ x' = subst (λ (l : Label). seen_number l x ≡ seen_number l x') (sym q) ex in
     ap (λ k. cond (k == 0) y.number x) en ∙ ap₂ (λ i j. cond (m == 0) i j) a b
 selected_alike Secret n m x x' y y' q en ey ex = refl
+
+-- what does not leak is no division
+not_timed : (op : ℕ) (profile : Profile) → leaks op profile ≡ false → is_timed op ≡ false
+unfolding leaks
+not_timed op profile e = (either_false (is_timed op) _ e).0
+  where
+    either_false : (a b : Bool) → a || b ≡ false → (a ≡ false) × (b ≡ false)
+    either_false false false e = (refl, refl)
+    either_false false true e = cc
+    either_false true b e = cc
+
+-- what a table gives of numbers that look the same
+of_operands : (l : Label) (f : ℕ → Option ℕ) (a b n m : ℕ) → seen_number l a ≡ seen_number l b → f a ≡ Some n → f b ≡ Some m → seen_number l n ≡ seen_number l m
+of_operands Public f a b n m e en em = same_Some n m (sym en ∙ ap f e ∙ em)
+of_operands Secret f a b n m e en em = refl
 
 module _ (fns : Functions) (fn : FunctionInstance) (s t : Storage) (es : seen_storage s ≡ seen_storage t) (h k : Here) (p : Places h k) (rest : Code Label) where
   -- both go on with these operands
@@ -86,26 +106,33 @@ module _ (fns : Functions) (fn : FunctionInstance) (s t : Storage) (es : seen_st
   same_outcome_alike u vs ws (Ok n) e = pushes u n n vs ws refl e
   same_outcome_alike u vs ws (Err trap) e = refl
 
-  binary_alike : (timed : Bool) (op : ℕ) (l : Label) (w : Width) (a a' b b' : ℕ) (vs ws : List Value) → is_timed op ≡ timed → seen_number l a ≡ seen_number l a' → seen_number l b ≡ seen_number l b' → map seen_value vs ≡ map seen_value ws
-      → Alike (showing timed l a b (outcome s h rest (value_type w l) vs (value2 op a b))) (showing timed l a' b' (outcome t k rest (value_type w l) ws (value2 op a' b')))
-  binary_alike true op Secret w a a' b b' vs ws et ea eb e = stuck_alike
-  binary_alike true op Public w a a' b b' vs ws et ea eb e =
+  -- the values of one operation on operands that look the same
+  binary_alike : (shown : Bool) (op : ℕ) (profile : Profile) (l : Label) (w : Width) (a a' b b' : ℕ) (x y : Result ℕ NumTrap) (sig : NumSig) (vs ws : List Value) → num_sig_of op ≡ Some sig → value2 op a b ≡ Some x → value2 op a' b' ≡ Some y → leaks op profile ≡ shown
+      → seen_number l a ≡ seen_number l a' → seen_number l b ≡ seen_number l b' → map seen_value vs ≡ map seen_value ws
+      → Alike (showing shown l a b (outcome s h rest (value_type w l) vs x)) (showing shown l a' b' (outcome t k rest (value_type w l) ws y))
+  binary_alike true op profile Secret w a a' b b' x y sig vs ws es ex ey el ea eb e = stuck_alike
+  binary_alike true op profile Public w a a' b b' x y sig vs ws es ex ey el ea eb e =
+      let q : x ≡ y = same_Some x y (sym ex ∙ ap₂ (value2 op) ea eb ∙ ey) in
       noting_alike (Events.Divide a b) (Events.Divide a' b') _ _ (ap₂ Events.Divide ea eb)
-      (same_outcome_alike (value_type w Public) vs ws (value2 op a b) e ∙ ap₂ (λ a b. seen_answer (outcome t k rest (value_type w Public) ws (value2 op a b))) ea eb)
-  binary_alike false op Public w a a' b b' vs ws et ea eb e =
-      quiet_alike _ _ (same_outcome_alike (value_type w Public) vs ws (value2 op a b) e ∙ ap₂ (λ a b. seen_answer (outcome t k rest (value_type w Public) ws (value2 op a b))) ea eb)
-  binary_alike false op Secret w a a' b b' vs ws et ea eb e =
-      quiet_alike _ _ (outcome_alike (value_type w Secret) vs ws (value2 op a b) (value2 op a' b') (untimed op a b et) (untimed op a' b' et) (λ n m x y. refl) e)
+      (same_outcome_alike (value_type w Public) vs ws x e ∙ ap (λ x. seen_answer (outcome t k rest (value_type w Public) ws x)) q)
+  binary_alike false op profile Public w a a' b b' x y sig vs ws es ex ey el ea eb e =
+      let q : x ≡ y = same_Some x y (sym ex ∙ ap₂ (value2 op) ea eb ∙ ey) in
+      quiet_alike _ _ (same_outcome_alike (value_type w Public) vs ws x e ∙ ap (λ x. seen_answer (outcome t k rest (value_type w Public) ws x)) q)
+  binary_alike false op profile Secret w a a' b b' x y sig vs ws es ex ey el ea eb e =
+      let calm = not_timed op profile el in
+      quiet_alike _ _ (outcome_alike (value_type w Secret) vs ws x y (untimed op a b x sig es ex calm) (untimed op a' b' y sig es ey calm) (λ n m p q. refl) e)
 
-  numeric_alike : (op : ℕ) (l : Label) (arity : ℕ) (vs ws : List Value) → map seen_value vs ≡ map seen_value ws → Alike (numeric s h rest op l arity vs) (numeric t k rest op l arity ws)
-  numeric_alike op l zero vs ws e = stuck_alike
-  numeric_alike op l (suc zero) vs ws e = pop_alike (value_type (num_sig_of op).operand l) (value_type (num_sig_of op).operand l) vs ws _ _ refl e (λ n m vs' ws' en e'.
-      quiet_alike _ _ (pushes (value_type (num_sig_of op).result l) (value1 op n) (value1 op m) vs' ws' (computed l (value1 op) n m en) e'))
-  numeric_alike op l (suc (suc zero)) vs ws e =
-      let u = value_type (num_sig_of op).operand l in
+  numeric_alike : (profile : Profile) (op : ℕ) (l : Label) (sig : NumSig) → num_sig_of op ≡ Some sig → (arity : ℕ) (vs ws : List Value) → map seen_value vs ≡ map seen_value ws → Alike (numeric profile s h rest op l sig arity vs) (numeric profile t k rest op l sig arity ws)
+  numeric_alike profile op l sig es zero vs ws e = stuck_alike
+  numeric_alike profile op l sig es (suc zero) vs ws e = pop_alike (value_type sig.operand l) (value_type sig.operand l) vs ws _ _ refl e (λ a a' vs' ws' ea e'.
+      both_alike (value1 op a) (value1 op a') _ _ (value1_some op a ∙ sym (value1_some op a')) (λ n m en em.
+      quiet_alike _ _ (pushes (value_type sig.result l) n m vs' ws' (of_operands l (value1 op) a a' n m ea en em) e')))
+  numeric_alike profile op l sig es (suc (suc zero)) vs ws e =
+      let u = value_type sig.operand l in
       pop_alike u u vs ws _ _ refl e (λ b b' vs1 ws1 eb e1. pop_alike u u vs1 ws1 _ _ refl e1 (λ a a' vs2 ws2 ea e2.
-      binary_alike (is_timed op) op l (num_sig_of op).result a a' b b' vs2 ws2 refl ea eb e2))
-  numeric_alike op l (suc (suc (suc more))) vs ws e = stuck_alike
+      both_alike (value2 op a b) (value2 op a' b') _ _ (value2_some op a b ∙ sym (value2_some op a' b')) (λ x y ex ey.
+      binary_alike (leaks op profile) op profile l sig.result a a' b b' x y sig vs2 ws2 es ex ey refl ea eb e2)))
+  numeric_alike profile op l sig es (suc (suc (suc more))) vs ws e = stuck_alike
 
   leaf_alike : (i : Leaf Label) (vs ws : List Value) → map seen_value vs ≡ map seen_value ws → Alike (leaf fns fn s h rest i vs) (leaf fns fn t k rest i ws)
   leaf_alike Unreachable vs ws e = quiet_alike _ _ refl
@@ -146,30 +173,30 @@ module _ (fns : Functions) (fn : FunctionInstance) (s t : Storage) (es : seen_st
       provided_alike g.mutable j.mutable _ _ (ap (λ (x : Global). x.mutable) eg) (λ _. pop_alike g.value.type j.value.type vs ws _ _ (ap (λ (x : Global). x.value.type) eg) e (λ n m vs' ws' en e'.
       quiet_alike _ _ (ap₂ Goes (with_number_alike s t es i g j n m eg en) (put_alike h k rest vs' ws' p e'))))))
   leaf_alike (Load w l n signed align offset) vs ws e = memory_alike _ _ (λ i m q em.
-      let la : m.label ≡ q.label = ap (λ (x : Memory). x.label) em in
-      provided_alike (same_label l m.label) (same_label l q.label) _ _ (ap (same_label l) la) (λ b. pop_public_alike W32 vs ws _ _ e (λ at vs' ws' e'.
+      let la : m.type.tag ≡ q.type.tag = ap (λ (x : Memory). x.type.tag) em in
+      provided_alike (same_label l m.type.tag) (same_label l q.type.tag) _ _ (ap (same_label l) la) (λ b. pop_public_alike W32 vs ws _ _ e (λ at vs' ws' e'.
       let place = at + offset in
       noted _ _ _ (cond_seen (nat_le (place + n) (length m.bytes)) (nat_le (place + n) (length q.bytes)) _ _ _ _ (ap (nat_le (place + n)) (same_length m q em))
-      (pushes (value_type w l) (number_at w signed n place m.bytes) (number_at w signed n place q.bytes) vs' ws' (read_alike l (number_at w signed n place) m.bytes q.bytes (same_bytes l m q (same_label_is l m.label b) em)) e')
+      (pushes (value_type w l) (number_at w signed n place m.bytes) (number_at w signed n place q.bytes) vs' ws' (read_alike l (number_at w signed n place) m.bytes q.bytes (same_bytes l m q (same_label_is l m.type.tag b) em)) e')
       refl))))
   leaf_alike (Store w l n align offset) vs ws e = memory_alike _ _ (λ i m q em.
-      let la : m.label ≡ q.label = ap (λ (x : Memory). x.label) em in
-      provided_alike (same_label l m.label) (same_label l q.label) _ _ (ap (same_label l) la) (λ b. pop_alike (value_type w l) (value_type w l) vs ws _ _ refl e (λ x y vs1 ws1 ex e1. pop_public_alike W32 vs1 ws1 _ _ e1 (λ at vs' ws' e'.
+      let la : m.type.tag ≡ q.type.tag = ap (λ (x : Memory). x.type.tag) em in
+      provided_alike (same_label l m.type.tag) (same_label l q.type.tag) _ _ (ap (same_label l) la) (λ b. pop_alike (value_type w l) (value_type w l) vs ws _ _ refl e (λ x y vs1 ws1 ex e1. pop_public_alike W32 vs1 ws1 _ _ e1 (λ at vs' ws' e'.
       let place = at + offset in
-      let lm : l ≡ m.label = same_label_is l m.label b in
+      let lm : l ≡ m.type.tag = same_label_is l m.type.tag b in
       let bs : seen_bytes l (written_at place (bytes_of_number n x) m.bytes) ≡ seen_bytes l (written_at place (bytes_of_number n y) q.bytes) = written_alike l place n x y m.bytes q.bytes (same_length m q em) (same_bytes l m q lm em) ex in
       noted _ _ _ (cond_seen (nat_le (place + n) (length m.bytes)) (nat_le (place + n) (length q.bytes)) _ _ _ _ (ap (nat_le (place + n)) (same_length m q em))
       (ap₂ Goes (with_bytes_alike s t es i m q (written_at place (bytes_of_number n x) m.bytes) (written_at place (bytes_of_number n y) q.bytes) em (subst (λ (l : Label). seen_bytes l (written_at place (bytes_of_number n x) m.bytes) ≡ seen_bytes l (written_at place (bytes_of_number n y) q.bytes)) lm bs)) (put_alike h k rest vs' ws' p e'))
       refl)))))
-  leaf_alike MemorySize vs ws e = memory_alike _ _ (λ i m q em. quiet_alike _ _ (pushes i32 (pages m) (pages q) vs ws (ap (λ n. n / 65536) (same_length m q em)) e))
+  leaf_alike MemorySize vs ws e = memory_alike _ _ (λ i m q em. quiet_alike _ _ (pushes i32 (pages m) (pages q) vs ws (ap (λ n. n / page_size) (same_length m q em)) e))
   leaf_alike MemoryGrow vs ws e = memory_alike _ _ (λ i m q em. pop_public_alike W32 vs ws _ _ e (λ n vs' ws' e'.
       let ms : map seen_memory s.memories ≡ map seen_memory t.memories = ap (λ (x : Storage). x.memories) es in
       noted _ _ _ (cond_seen (may_grow s m n) (may_grow t q n) _ _ _ _ (may_grow_alike s t m q n ms em)
-      (ap₂ Goes (with_bytes_alike s t es i m q (grown m n) (grown q n) em (grown_alike m.label (65536 * n) m.bytes q.bytes (same_length m q em) (same_bytes m.label m q refl em)))
-      (put_alike h k rest (value i32 (pages m) ∷ vs') (value i32 (pages q) ∷ ws') p (pushed i32 (pages m) (pages q) vs' ws' (ap (λ n. n / 65536) (same_length m q em)) e')))
+      (ap₂ Goes (with_bytes_alike s t es i m q (grown m n) (grown q n) em (grown_alike m.type.tag (page_size * n) m.bytes q.bytes (same_length m q em) (same_bytes m.type.tag m q refl em)))
+      (put_alike h k rest (value i32 (pages m) ∷ vs') (value i32 (pages q) ∷ ws') p (pushed i32 (pages m) (pages q) vs' ws' (ap (λ n. n / page_size) (same_length m q em)) e')))
       (pushes i32 4294967295 4294967295 vs' ws' refl e'))))
-  leaf_alike (Const w l n) vs ws e = quiet_alike _ _ (pushes (value_type w l) (wrap (bit_width w) n) (wrap (bit_width w) n) vs ws refl e)
-  leaf_alike (Numeric op l) vs ws e = numeric_alike op l (num_sig_of op).arity vs ws e
+  leaf_alike (Const w l n) vs ws e = quiet_alike _ _ (pushes (value_type w l) n n vs ws refl e)
+  leaf_alike (Numeric op l) vs ws e = named_alike (num_sig_of op) _ _ (λ sig es. numeric_alike fn.part.profile op l sig es sig.arity vs ws e)
   leaf_alike (Classify w) vs ws e = pop_alike (value_type w Public) (value_type w Public) vs ws _ _ refl e (λ n m vs' ws' en e'.
       record { releases = refl; answer = λ _. pushes (value_type w Secret) n m vs' ws' refl e'; cost = refl; event = refl })
   leaf_alike (Declassify w) vs ws e = pop_alike (value_type w Secret) (value_type w Secret) vs ws _ _ refl e (λ n m vs' ws' en e'.

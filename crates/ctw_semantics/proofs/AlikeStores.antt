@@ -3,8 +3,10 @@ use Rattle.std.proofs.Common.{◌≡◌, ℕ, ◌+◌, ◌/◌, Bool, ◌&&◌, 
 use Rattle.std.proofs.lemmas.List.{map-set, length-replicate}
 use Rattle.ctw_ops.specs.declared.types.Label.{Label}
 use Rattle.ctw_ops.specs.declared.types.Label.TheVariants.{Public, Secret}
+use Rattle.ctw_ops.specs.Types.{MemoryType}
+use Rattle.ctw_ops.specs.Limits.{page_size, most_memory_pages, most_set_pages}
 use Rattle.ctw_semantics.specs.Values.{value}
-use Rattle.ctw_semantics.specs.Stores.{Memory, Global, Storage, bytes_of_number, written_at, with_bytes, with_number, pages, all_pages, most_pages, may_grow}
+use Rattle.ctw_semantics.specs.Stores.{Memory, Global, Storage, bytes_of_number, written_at, with_bytes, with_number, pages, all_pages, most_pages_of, may_grow}
 use Rattle.ctw_semantics.specs.Seen.{seen_number, seen_bytes, seen_value, seen_memory, seen_global, seen_storage}
 use Rattle.ctw_semantics.proofs.Memories.{length-bytes_of_number, length-written_at}
 use Rattle.ctw_semantics.proofs.Alike.{value_alike}
@@ -14,13 +16,13 @@ length-seen_bytes Public bytes = refl
 length-seen_bytes Secret bytes = length-replicate (length bytes) 0
 
 pub same_length : (m q : Memory) → seen_memory m ≡ seen_memory q → length m.bytes ≡ length q.bytes
-same_length m q e = sym (length-seen_bytes m.label m.bytes) ∙ ap (λ (x : Memory). length x.bytes) e ∙ length-seen_bytes q.label q.bytes
+same_length m q e = sym (length-seen_bytes m.type.tag m.bytes) ∙ ap (λ (x : Memory). length x.bytes) e ∙ length-seen_bytes q.type.tag q.bytes
 
 -- the bytes of a public memory are seen
-pub same_bytes : (l : Label) (m q : Memory) → l ≡ m.label → seen_memory m ≡ seen_memory q → seen_bytes l m.bytes ≡ seen_bytes l q.bytes
+pub same_bytes : (l : Label) (m q : Memory) → l ≡ m.type.tag → seen_memory m ≡ seen_memory q → seen_bytes l m.bytes ≡ seen_bytes l q.bytes
 same_bytes l m q p e =
-    let a : seen_bytes m.label m.bytes ≡ seen_bytes q.label q.bytes = ap (λ (x : Memory). x.bytes) e in
-    let b : q.label ≡ m.label = ap (λ (x : Memory). x.label) (sym e) in
+    let a : seen_bytes m.type.tag m.bytes ≡ seen_bytes q.type.tag q.bytes = ap (λ (x : Memory). x.bytes) e in
+    let b : q.type.tag ≡ m.type.tag = ap (λ (x : Memory). x.type.tag) (sym e) in
     subst (λ (u : Label). seen_bytes u m.bytes ≡ seen_bytes u q.bytes) (sym p) (a ∙ ap (λ (u : Label). seen_bytes u q.bytes) b)
 
 -- a number that is read from bytes that look the same
@@ -48,7 +50,7 @@ all_pages_alike : (ms qs : List Memory) → map seen_memory ms ≡ map seen_memo
 all_pages_alike [] [] e = refl
 all_pages_alike (m ∷ ms) (q ∷ qs) e =
     let em : seen_memory m ≡ seen_memory q = cc in
-    ap₂ (λ (n k : ℕ). n / 65536 + k) (same_length m q em) (all_pages_alike ms qs (cc))
+    ap₂ (λ (n k : ℕ). n / page_size + k) (same_length m q em) (all_pages_alike ms qs (cc))
 all_pages_alike [] (q ∷ qs) e = cc
 all_pages_alike (m ∷ ms) [] e = cc
 
@@ -57,9 +59,9 @@ unfolding may_grow
 may_grow_alike s t m q n es e =
     let a = all_pages_alike s.memories t.memories es in
     let b = same_length m q e in
-    let c : m.max ≡ q.max = ap (λ (x : Memory). x.max) e in
-    ap₂ (λ (k : ℕ) (rest : Bool). nat_le (k / 65536 + n) (most_pages m.max) && rest) b (ap₂ (λ (k j : ℕ). nat_le (k / 65536 + n) 65536 && nat_le (j + n) 4096) b a)
-    ∙ ap (λ o. nat_le (pages q + n) (most_pages o) && (nat_le (pages q + n) 65536 && nat_le (all_pages t.memories + n) 4096)) c
+    let c : m.type ≡ q.type = ap (λ (x : Memory). x.type) e in
+    ap₂ (λ (k : ℕ) (rest : Bool). nat_le (k / page_size + n) (most_pages_of m.type) && rest) b (ap₂ (λ (k j : ℕ). nat_le (k / page_size + n) most_memory_pages && nat_le (j + n) most_set_pages) b a)
+    ∙ ap (λ (u : MemoryType Label). nat_le (pages q + n) (most_pages_of u) && (nat_le (pages q + n) most_memory_pages && nat_le (all_pages t.memories + n) most_set_pages)) c
 
 module _ (s t : Storage) (es : seen_storage s ≡ seen_storage t) where
   pub with_number_alike : (i : ℕ) (g j : Global) (n m : ℕ) → seen_global g ≡ seen_global j → seen_number g.value.type.tag n ≡ seen_number g.value.type.tag m → seen_storage (with_number s i g n) ≡ seen_storage (with_number t i j m)
@@ -75,14 +77,13 @@ module _ (s t : Storage) (es : seen_storage s ≡ seen_storage t) where
       let gs : map seen_global (slice_set s.globals i new) ≡ map seen_global (slice_set t.globals i other) = map-set seen_global s.globals i new ∙ ap₂ (λ (l : List Global) (v : Global). slice_set l i v) ge e ∙ sym (map-set seen_global t.globals i other) in
       cc
 
-  pub with_bytes_alike : (i : ℕ) (m q : Memory) (xs ys : List ℕ) → seen_memory m ≡ seen_memory q → seen_bytes m.label xs ≡ seen_bytes m.label ys → seen_storage (with_bytes s i m xs) ≡ seen_storage (with_bytes t i q ys)
+  pub with_bytes_alike : (i : ℕ) (m q : Memory) (xs ys : List ℕ) → seen_memory m ≡ seen_memory q → seen_bytes m.type.tag xs ≡ seen_bytes m.type.tag ys → seen_storage (with_bytes s i m xs) ≡ seen_storage (with_bytes t i q ys)
   with_bytes_alike i m q xs ys e eb =
-      let la : m.label ≡ q.label = ap (λ (x : Memory). x.label) e in
-      let mo : m.max ≡ q.max = ap (λ (x : Memory). x.max) e in
+      let ty : m.type ≡ q.type = ap (λ (x : Memory). x.type) e in
       let ta : s.tables ≡ t.tables = ap (λ (x : Storage). x.tables) es in
       let ge : map seen_global s.globals ≡ map seen_global t.globals = ap (λ (x : Storage). x.globals) es in
       let me : map seen_memory s.memories ≡ map seen_memory t.memories = ap (λ (x : Storage). x.memories) es in
-      let by : seen_bytes m.label xs ≡ seen_bytes q.label ys = eb ∙ ap (λ (l : Label). seen_bytes l ys) la in
+      let by : seen_bytes m.type.tag xs ≡ seen_bytes q.type.tag ys = eb ∙ ap (λ (t : MemoryType Label). seen_bytes t.tag ys) ty in
       let new : seen_memory (record m { bytes = xs }) ≡ seen_memory (record q { bytes = ys }) = cc in
       let ms = map-set seen_memory s.memories i (record m { bytes = xs }) ∙ ap₂ (λ (l : List Memory) (v : Memory). slice_set l i v) me new ∙ sym (map-set seen_memory t.memories i (record q { bytes = ys })) in
       cc

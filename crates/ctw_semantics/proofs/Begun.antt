@@ -7,12 +7,12 @@ use Rattle.ctw_ops.specs.Tree.{TypeEntry}
 use Rattle.ctw_ops.specs.Erasure.{erase_code}
 use Rattle.ctw_semantics.specs.Values.{Value, zero_of}
 use Rattle.ctw_semantics.specs.Instances.{FunctionInstance, Functions}
-use Rattle.ctw_semantics.specs.Activations.{most_weight}
+use Rattle.ctw_ops.specs.Limits.{most_weight}
 use Rattle.ctw_semantics.specs.Machine.{begun}
 use Rattle.ctw_semantics.specs.Seen.{seen_value, seen}
 use Rattle.ctw_semantics.specs.Sound.{Shape, FunctionTyped, SoundSet, HasTypes, SoundCall}
 use Rattle.ctw_semantics.specs.Erased.{erase_instance, erase_value, erase_activation}
-use Rattle.ctw_semantics.proofs.Lists.{all_get}
+use Rattle.ctw_ops.proofs.Lists.{all_get}
 use Rattle.ctw_semantics.proofs.Typed.{types_append, zeros_typed}
 use Rattle.ctw_semantics.proofs.ErasesPlaces.{entries_are, zeros_erased}
 

@@ -12,7 +12,8 @@ use Rattle.ctw_script.specs.declared.trap.TrapCode.TheVariants.{Exhausted}
 use Rattle.ctw_semantics.specs.Values.{Value, value}
 use Rattle.ctw_semantics.specs.Stores.{Storage}
 use Rattle.ctw_semantics.specs.Instances.{FunctionInstance, Functions}
-use Rattle.ctw_semantics.specs.Activations.{Open, Activation, weight, most_weight}
+use Rattle.ctw_ops.specs.Limits.{most_weight}
+use Rattle.ctw_semantics.specs.Activations.{Open, Activation, weight}
 use Rattle.ctw_semantics.specs.Answers.{Answer, Goes, Trapped, Stuck, Reduced, quiet, noting, relabelling, stuck, given, provided, pop}
 use Rattle.ctw_semantics.specs.Machine.{Here, put, next, limited, here, in_frame, red}
 use Rattle.ctw_semantics.specs.Steps.{free, free_inside, free_next, Stepped, stops, then_step, reductions, step}

@@ -4,7 +4,8 @@ use Rattle.std.specs.List.{cons_option}
 use Rattle.ctw_ops.specs.declared.types.Label.{Label}
 use Rattle.ctw_ops.specs.Types.{FunctionType, erase_function_type}
 use Rattle.ctw_ops.specs.Tree.{TypeEntry}
-use Rattle.ctw_ops.specs.Erasure.{kept_entry, erase_entries, base_of, VariantsFit}
+use Rattle.ctw_ops.proofs.Variants.{VariantsFit}
+use Rattle.ctw_ops.specs.Erasure.{kept_entry, erase_entries, base_of}
 
 abbrev pub entry_of : FunctionType Label → TypeEntry Label
 entry_of type = record { base = None; type = type }

@@ -15,15 +15,17 @@ use Rattle.ctw_script.specs.declared.trap.TrapCode.TheVariants.{Exhausted}
 use Rattle.ctw_semantics.specs.Values.{Value, value}
 use Rattle.ctw_semantics.specs.Stores.{Storage}
 use Rattle.ctw_semantics.specs.Instances.{FunctionInstance, Functions}
-use Rattle.ctw_semantics.specs.Activations.{Open, Frame, Activation, labels_weight, weight, most_weight}
+use Rattle.ctw_ops.specs.Limits.{most_weight}
+use Rattle.ctw_semantics.specs.Activations.{Open, Frame, Activation, labels_weight, weight}
 use Rattle.ctw_semantics.specs.Answers.{Answer, Goes, Ended, Trapped, Stuck, Reduced, stuck, given, provided, pop, relabelling}
 use Rattle.ctw_semantics.specs.Machine.{Here, put, next, within_weight, limited, here, in_frame, red}
 use Rattle.ctw_semantics.specs.Steps.{free, free_inside, free_next, Stepped, stops, then_step, reductions, step, Turned, then_turn, turn}
 use Rattle.ctw_semantics.specs.Places.{StandIn}
 use Rattle.ctw_semantics.specs.Sound.{Shape, shape_of, SoundStorage, FunctionTyped, UsersAlike, SoundSet, SoundCall, SoundAnswer}
 use Rattle.ctw_semantics.specs.Erased.{erase_instance, erase_functions, erase_value, erase_storage, entries_of, erase_open, erase_frame, erase_activation, erase_answer, erase_reduced, erase_stepped, erase_turned}
-use Rattle.ctw_semantics.proofs.Tests.{same_type_is}
-use Rattle.ctw_semantics.proofs.Lists.{all_get, contains_get}
+use Rattle.ctw_ops.proofs.EqualLaws.{same_type_is}
+use Rattle.ctw_ops.proofs.Variants.{variants_fit}
+use Rattle.ctw_ops.proofs.Lists.{all_get, contains_get}
 use Rattle.ctw_semantics.proofs.Placed.{calls_here}
 use Rattle.ctw_semantics.proofs.Sound.{red_sound}
 use Rattle.ctw_semantics.proofs.SoundSteps.{step_sound}
@@ -76,7 +78,7 @@ module _ (fns : Functions) (shape : Shape) (last : Option (ValueType Label)) (se
   in_frame_erases s es f fn found (o ∷ os) p fs z =
       look_erases fns erase_instance fns f.func _ _ (λ fn' e.
       let q : fn ≡ fn' = cc in
-      limited_erases fns _ _ (next_erases fns fn' s (here f o os fs) e (all_get (FunctionTyped fns shape) fns f.func fn' set.bodies e).variants o.code o.values
+      limited_erases fns _ _ (next_erases fns fn' s (here f o os fs) e (variants_fit fn'.part.types (all_get (FunctionTyped fns shape) fns f.func fn' set.bodies e).variants) o.code o.values
       (λ y rest ec. users_of fn' f.func e s es o os (subst (λ (fn : FunctionInstance). StandIn fn.body (o ∷ os)) q p) y rest ec) z))
 
   not_stuck : (x : Answer) → SoundAnswer fns shape last x → x ≡ Stuck → ⊥

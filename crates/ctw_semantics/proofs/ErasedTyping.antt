@@ -1,5 +1,5 @@
 -- Erased code has the erased types.
-use Rattle.std.proofs.Common.{◌≡◌, ℕ, zero, suc, true, List, [], ◌∷◌, ◌++◌, map, replicate, Option, Some, None, option_map, slice_get, refl, sym, ap, ap₂, ◌∙◌, subst}
+use Rattle.std.proofs.Common.{◌≡◌, ℕ, zero, suc, true, List, [], ◌∷◌, ◌++◌, map, replicate, Option, Some, option_map, slice_get, refl, sym, ap, ap₂, ◌∙◌, subst}
 use Rattle.std.proofs.lemmas.List.{map-append}
 use Rattle.ctw_ops.specs.declared.types.Label.{Label}
 use Rattle.ctw_ops.specs.declared.types.Label.TheVariants.{Public}
@@ -8,11 +8,12 @@ use Rattle.ctw_ops.specs.declared.types.Trust.{Trust}
 use Rattle.ctw_ops.specs.declared.types.Trust.TheVariants.{Untrusted, Trusted}
 use Rattle.ctw_ops.specs.Types.{ValueType, FunctionType, VariableType, value_type, erase_value_type, erase_function_type}
 use Rattle.ctw_ops.specs.Tree.{TypeEntry}
-use Rattle.ctw_ops.specs.Numeric.{num_sig_of}
-use Rattle.ctw_ops.specs.Code.{Leaf, Unreachable, Nop, Br, BrIf, BrTable, Return, Call, CallIndirect, Drop, Select, LocalGet, LocalSet, LocalTee, GlobalGet, GlobalSet, Load, Store, MemorySize, MemoryGrow, Const, Numeric, Classify, Declassify, Code, Stop, Then, Block, Loop, If, IfElse}
+use Rattle.ctw_ops.specs.TagMaps.{in_front_of}
+use Rattle.ctw_ops.specs.Code.{Leaf, Unreachable, Nop, Br, BrIf, BrTable, Return, Call, CallIndirect, Drop, Select, LocalGet, LocalSet, LocalTee, GlobalGet, GlobalSet, Load, Store, MemorySize, MemoryGrow, Const, Numeric, Classify, Declassify, Code}
 use Rattle.ctw_ops.specs.Typing.{Context, optional, i32, inside, upon, Moves, Leaves, MayCall, operands, Row, Typed}
-use Rattle.ctw_ops.specs.Erasure.{base_of, erase_leaf, erase_code, erase_variable_type}
-use Rattle.ctw_semantics.proofs.Lists.{map-upon, map-optional}
+use Rattle.ctw_ops.specs.Erasure.{base_of, erase_label, erase_leaf, erase_code, erase_variable_type}
+use Rattle.ctw_ops.proofs.Lists.{map-upon, map-optional}
+use Rattle.ctw_ops.proofs.TagMaps.{typed_to}
 
 abbrev erased : List (ValueType Label) → List (ValueType Label)
 erased types = map erase_value_type types
@@ -61,7 +62,7 @@ module _ (entries : List (TypeEntry Label)) (C D : Context Label) (e : ErasesTo 
   before_condition : (ts us : List (ValueType Label)) → erased ts ≡ us → erased (ts ++ i32 C ∷ []) ≡ us ++ i32 D ∷ []
   before_condition ts us p = map-append erase_value_type ts (i32 C ∷ []) ∙ ap₂ (λ (xs ys : List (ValueType Label)). xs ++ ys) p condition
 
-  leaf_erased : (i : Leaf Label) (a b to : List (ValueType Label)) (rest : Code Label) → Row C i a b → Typed D rest (erased b) to → Typed D (erase_leaf entries i rest) (erased a) to
+  leaf_erased : (i : Leaf Label) (a b to : List (ValueType Label)) (rest : Code Label) → Row C i a b → Typed D rest (erased b) to → Typed D (in_front_of (erase_leaf entries i) rest) (erased a) to
   leaf_erased Unreachable a b to rest r t = (erased b, tt, t)
   leaf_erased Nop a b to rest r t = (erased b, ap erased r, t)
   leaf_erased (Br k) a b to rest r t = (erased b, (option_map erase_value_type r.0, e.labels k r.0 r.1, leaves_erased (optional r.0) _ a b (map-optional erase_value_type r.0) r.2), t)
@@ -105,43 +106,16 @@ module _ (entries : List (TypeEntry Label)) (C D : Context Label) (e : ErasesTo 
   leaf_erased (LocalTee x) a b to rest r t = (erased b, (erase_value_type r.0, e.locals x r.0 r.1, moves_erased (r.0 ∷ []) (r.0 ∷ []) _ _ a b refl refl r.2), t)
   leaf_erased (GlobalGet x) a b to rest r t = (erased b, (erase_variable_type r.0, e.globals x r.0 r.1, moves_erased [] (r.0.value ∷ []) _ _ a b refl refl r.2), t)
   leaf_erased (GlobalSet x) a b to rest r t = (erased b, (erase_variable_type r.0, e.globals x r.0 r.1, r.2, moves_erased (r.0.value ∷ []) [] _ _ a b refl refl r.3), t)
-  leaf_erased (Load w l bytes signed align offset) a b to rest r t = (erased b, (e.memory l r.0, r.1, moves_erased (i32 C ∷ []) (value_type w l ∷ []) _ _ a b condition refl r.2), t)
+  leaf_erased (Load w l bytes signed align offset) a b to rest r t = (erased b, (r.0, e.memory l r.1, r.2, moves_erased (i32 C ∷ []) (value_type w l ∷ []) _ _ a b condition refl r.3), t)
   leaf_erased (Store w l bytes align offset) a b to rest r t =
-      (erased b, (e.memory l r.0, r.1, moves_erased (i32 C ∷ value_type w l ∷ []) [] _ _ a b (ap (λ ts. ts ++ value_type w Public ∷ []) condition) refl r.2), t)
+      (erased b, (r.0, e.memory l r.1, r.2, moves_erased (i32 C ∷ value_type w l ∷ []) [] _ _ a b (ap (λ ts. ts ++ value_type w Public ∷ []) condition) refl r.3), t)
   leaf_erased MemorySize a b to rest r t = (erased b, (Public, e.memory r.0 r.1, moves_erased [] (i32 C ∷ []) _ _ a b refl condition r.2), t)
   leaf_erased MemoryGrow a b to rest r t = (erased b, (Public, e.memory r.0 r.1, moves_erased (i32 C ∷ []) (i32 C ∷ []) _ _ a b condition condition r.2), t)
-  leaf_erased (Const w l bits) a b to rest r t = (erased b, moves_erased [] (value_type w l ∷ []) _ _ a b refl refl r, t)
+  leaf_erased (Const w l bits) a b to rest r t = (erased b, (r.0, moves_erased [] (value_type w l ∷ []) _ _ a b refl refl r.1), t)
   leaf_erased (Numeric op l) a b to rest r t =
-      (erased b, ((λ timed. sym e.public), moves_erased (operands (num_sig_of op) l) (value_type (num_sig_of op).result l ∷ []) _ _ a b (replicate_erased (num_sig_of op).arity (value_type (num_sig_of op).operand l)) refl r.1), t)
+      (erased b, (r.0, r.1, (λ leak. sym e.public), moves_erased (operands r.0 l) (value_type r.0.result l ∷ []) _ _ a b (replicate_erased r.0.arity (value_type r.0.operand l)) refl r.3), t)
   leaf_erased (Classify w) a b to rest r t = subst (λ ts. Typed D rest ts to) (ap erased r.2 ∙ sym (ap erased r.1)) t
   leaf_erased (Declassify w) a b to rest r t = subst (λ ts. Typed D rest ts to) (ap erased r.1.2 ∙ sym (ap erased r.1.1)) t
 
-upon_erased : (t : Option (ValueType Label)) (s : List (ValueType Label)) → erased (upon (optional t) s) ≡ upon (optional (option_map erase_value_type t)) (erased s)
-upon_erased None s = refl
-upon_erased (Some t) s = refl
-
 pub code_erased : (entries : List (TypeEntry Label)) (C D : Context Label) → ErasesTo entries C D → (c : Code Label) (from to : List (ValueType Label)) → Typed C c from to → Typed D (erase_code entries c) (erased from) (erased to)
-code_erased entries C D e Stop from to t = ap erased t
-code_erased entries C D e (Then i rest) from to t = leaf_erased entries C D e i from t.0 (erased to) (erase_code entries rest) t.1 (code_erased entries C D e rest t.0 to t.2)
-code_erased entries C D e (Block u body rest) from to t = (
-  subst (λ ts. Typed (inside (option_map erase_value_type u) D) (erase_code entries body) [] ts) (map-optional erase_value_type u) (code_erased entries (inside u C) (inside (option_map erase_value_type u) D) (inside_erases entries C D e u) body [] (optional u) t.0),
-  subst (λ ts. Typed D (erase_code entries rest) ts (erased to)) (upon_erased u from) (code_erased entries C D e rest (upon (optional u) from) to t.1),
-)
-code_erased entries C D e (Loop u body rest) from to t = (
-  subst (λ ts. Typed (inside None D) (erase_code entries body) [] ts) (map-optional erase_value_type u) (code_erased entries (inside None C) (inside None D) (inside_erases entries C D e None) body [] (optional u) t.0),
-  subst (λ ts. Typed D (erase_code entries rest) ts (erased to)) (upon_erased u from) (code_erased entries C D e rest (upon (optional u) from) to t.1),
-)
-code_erased entries C D e (If u arm rest) from to t = (
-  ap (option_map erase_value_type) t.0,
-  subst (λ ts. Typed (inside (option_map erase_value_type u) D) (erase_code entries arm) [] ts) (map-optional erase_value_type u) (code_erased entries (inside u C) (inside (option_map erase_value_type u) D) (inside_erases entries C D e u) arm [] (optional u) t.1),
-  erased t.2,
-  ap erased t.3 ∙ ap (λ l. value_type W32 l ∷ erased t.2) (sym e.public),
-  subst (λ ts. Typed D (erase_code entries rest) ts (erased to)) (upon_erased u t.2) (code_erased entries C D e rest (upon (optional u) t.2) to t.4),
-)
-code_erased entries C D e (IfElse u arm other rest) from to t = (
-  subst (λ ts. Typed (inside (option_map erase_value_type u) D) (erase_code entries arm) [] ts) (map-optional erase_value_type u) (code_erased entries (inside u C) (inside (option_map erase_value_type u) D) (inside_erases entries C D e u) arm [] (optional u) t.0),
-  subst (λ ts. Typed (inside (option_map erase_value_type u) D) (erase_code entries other) [] ts) (map-optional erase_value_type u) (code_erased entries (inside u C) (inside (option_map erase_value_type u) D) (inside_erases entries C D e u) other [] (optional u) t.1),
-  erased t.2,
-  ap erased t.3 ∙ ap (λ l. value_type W32 l ∷ erased t.2) (sym e.public),
-  subst (λ ts. Typed D (erase_code entries rest) ts (erased to)) (upon_erased u t.2) (code_erased entries C D e rest (upon (optional u) t.2) to t.4),
-)
+code_erased entries = typed_to erase_label (erase_leaf entries) (ErasesTo entries) (inside_erases entries) (λ C D e. sym e.public) (leaf_erased entries)

@@ -8,7 +8,7 @@ use Rattle.ctw_semantics.specs.Values.{Value, value}
 use Rattle.ctw_semantics.specs.Instances.{Functions}
 use Rattle.ctw_semantics.specs.Answers.{Answer, Stuck, Reduced, stuck, given, provided, pop, pop_any, pops, carry}
 use Rattle.ctw_semantics.specs.Erased.{erase_value, erase_answer, erase_reduced}
-use Rattle.ctw_semantics.proofs.Tests.{both, same_width_is, same_width_when}
+use Rattle.ctw_ops.proofs.EqualLaws.{both, same_width_is, same_width_when}
 
 module _ (fns : Functions) where
   -- unless it is stuck, the first is the second, erased

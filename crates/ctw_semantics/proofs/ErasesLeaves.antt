@@ -4,25 +4,30 @@ use Rattle.std.proofs.lemmas.List.{map-set}
 use Rattle.ctw_ops.specs.declared.types.Label.{Label}
 use Rattle.ctw_ops.specs.declared.types.Label.TheVariants.{Public}
 use Rattle.ctw_ops.specs.declared.types.Width.TheVariants.{W32}
-use Rattle.ctw_ops.specs.Types.{ValueType, value_type, erase_value_type, erase_function_type}
+use Rattle.ctw_ops.specs.Types.{ValueType, value_type, EraseAlike, erase_value_type, erase_function_type}
 use Rattle.ctw_ops.specs.Tree.{TypeEntry}
 use Rattle.ctw_ops.specs.Equal.{same_label, same_function_type}
-use Rattle.ctw_ops.specs.Numeric.{num_sig_of, is_timed}
+use Rattle.ctw_ops.specs.declared.numeric.NumSig.{NumSig}
+use Rattle.ctw_ops.specs.declared.numeric.Profile.{Profile}
+use Rattle.ctw_ops.specs.Numeric.{num_sig_of, leaks}
+use Rattle.ctw_ops.specs.TagMaps.{in_front_of}
+use Rattle.ctw_ops.specs.Limits.{most_memory_pages, most_set_pages}
 use Rattle.ctw_ops.specs.Code.{Leaf, Unreachable, Nop, Br, BrIf, BrTable, Return, Call, CallIndirect, Drop, Select, LocalGet, LocalSet, LocalTee, GlobalGet, GlobalSet, Load, Store, MemorySize, MemoryGrow, Const, Numeric, Classify, Declassify, Code, Stop, Then, Block, Loop, If, IfElse}
-use Rattle.ctw_ops.specs.Erasure.{erase_entries, base_of, VariantsFit, erase_leaf, erase_code}
+use Rattle.ctw_ops.proofs.Variants.{VariantsFit}
+use Rattle.ctw_ops.specs.Erasure.{erase_entries, base_of, erase_leaf, erase_code}
 use Rattle.ctw_num.specs.declared.trap.NumTrap.{NumTrap}
-use Rattle.ctw_num.specs.Values.{value2}
+use Rattle.ctw_num.specs.Values.{value1, value2}
 use Rattle.ctw_script.specs.declared.event.Event.TheVariants as Events
 use Rattle.ctw_script.specs.declared.trap.TrapCode.TheVariants.{CallType}
 use Rattle.ctw_semantics.specs.Values.{Value, value, i32}
-use Rattle.ctw_semantics.specs.Stores.{Memory, Global, Table, Storage, bytes_of_number, written_at, with_bytes, with_number, pages, all_pages, most_pages, may_grow, grown}
+use Rattle.ctw_semantics.specs.Stores.{Memory, Global, Table, Storage, bytes_of_number, written_at, with_bytes, with_number, pages, all_pages, most_pages_of, may_grow, grown}
 use Rattle.ctw_semantics.specs.Instances.{FunctionInstance, Functions}
 use Rattle.ctw_semantics.specs.Answers.{Answer, Goes, Trapped, Reduced, quiet, noting, stuck, given}
 use Rattle.ctw_semantics.specs.Machine.{Here, innermost, put, with_local, enter, table_place, invoke, call_entry, outcome, showing, numeric, leaf, choose, next}
 use Rattle.ctw_semantics.specs.Steps.{free}
 use Rattle.ctw_semantics.specs.Erased.{erase_instance, erase_functions, erase_value, erase_memory, erase_global, erase_storage, erase_answer, erase_reduced}
-use Rattle.ctw_semantics.proofs.Tests.{same_function_type_is, same_function_type_when}
-use Rattle.ctw_semantics.proofs.Lists.{contains_get}
+use Rattle.ctw_ops.proofs.EqualLaws.{same_function_type_is, same_function_type_when}
+use Rattle.ctw_ops.proofs.Lists.{contains_get}
 use Rattle.ctw_semantics.proofs.Entries.{entry_of, base_erased}
 use Rattle.ctw_semantics.proofs.Erases.{Erases, stuck_erases, same_erases, provided_erases, look_erases, index_erases, pop_erases, pop_any_erases, carry_erases, cond_erases, cond_erased}
 use Rattle.ctw_semantics.proofs.ErasesPlaces.{entries_here, erased_here, quiet_tells, noting_tells, finish_erased, leave_erased, branch_erases, pass_erases, entries_are, invoke_erases}
@@ -35,7 +40,7 @@ all_pages_erased (m ∷ ms) = ap (λ n. pages m + n) (all_pages_erased ms)
 
 may_grow_erased : (s : Storage) (m : Memory) (n : ℕ) → may_grow s m n ≡ may_grow (erase_storage s) (erase_memory m) n
 unfolding may_grow
-may_grow_erased s m n = ap (λ k. nat_le (pages m + n) (most_pages m.max) && (nat_le (pages m + n) 65536 && nat_le (k + n) 4096)) (sym (all_pages_erased s.memories))
+may_grow_erased s m n = ap (λ k. nat_le (pages m + n) (most_pages_of m.type) && (nat_le (pages m + n) most_memory_pages && nat_le (k + n) most_set_pages)) (sym (all_pages_erased s.memories))
 
 bytes_erased : (s : Storage) (i : ℕ) (m : Memory) (bytes : List ℕ) → erase_storage (with_bytes s i m bytes) ≡ with_bytes (erase_storage s) i (erase_memory m) bytes
 bytes_erased s i m bytes = ap (λ ms. record { memories = ms; globals = map erase_global s.globals; tables = s.tables }) (map-set erase_memory s.memories i (record m { bytes = bytes }))
@@ -53,7 +58,7 @@ abbrev pub UsersOf : Functions → FunctionInstance → Storage → ℕ → Type
 UsersOf fns fn s y =
     (t f : ℕ) (table : Table) (entry : TypeEntry Label) (callee : FunctionInstance)
     → fn.part.table ≡ Some t → slice_get s.tables t ≡ Some table → Contains table.entries (Some f) → slice_get fns f ≡ Some callee → slice_get fn.part.types y ≡ Some entry
-    → erase_function_type callee.type ≡ erase_function_type entry.type → callee.type ≡ entry.type
+    → EraseAlike callee.type entry.type → callee.type ≡ entry.type
 
 module _ (fns : Functions) (fn : FunctionInstance) (s : Storage) (h : Here) (found : slice_get fns h.func ≡ Some fn) (fit : VariantsFit fn.part.types) (rest : Code Label) where
   abbrev rest' : Code Label
@@ -87,17 +92,17 @@ module _ (fns : Functions) (fn : FunctionInstance) (s : Storage) (h : Here) (fou
   showing_erases false l x y answer answer' e = same_erases fns _ _ (ap quiet e)
   showing_erases true l x y answer answer' e = provided_erases fns (same_label l Public) true _ _ (λ _. refl) (same_erases fns _ _ (ap (noting (Events.Divide x y)) e))
 
-  numeric_erases : (op : ℕ) (l : Label) (arity : ℕ) (vs : List Value) → Erases fns (numeric s h rest op l arity vs) (numeric (erase_storage s) (erased_here fns h) rest' op Public arity (map erase_value vs))
-  numeric_erases op l zero vs = stuck_erases fns stuck
-  numeric_erases op l (suc zero) vs = pop_erases fns (value_type (num_sig_of op).operand l) vs _ _ (λ n below. same_erases fns _ _ refl)
-  numeric_erases op l (suc (suc zero)) vs = pop_erases fns (value_type (num_sig_of op).operand l) vs _ _ (λ y below. pop_erases fns (value_type (num_sig_of op).operand l) below _ _ (λ x below'.
-      showing_erases (is_timed op) l x y _ _ (outcome_erased (value_type (num_sig_of op).result l) below' (value2 op x y))))
-  numeric_erases op l (suc (suc (suc more))) vs = stuck_erases fns stuck
+  numeric_erases : (profile : Profile) (op : ℕ) (l : Label) (sig : NumSig) (arity : ℕ) (vs : List Value) → Erases fns (numeric profile s h rest op l sig arity vs) (numeric profile (erase_storage s) (erased_here fns h) rest' op Public sig arity (map erase_value vs))
+  numeric_erases profile op l sig zero vs = stuck_erases fns stuck
+  numeric_erases profile op l sig (suc zero) vs = pop_erases fns (value_type sig.operand l) vs _ _ (λ a below. index_erases fns (value1 op a) _ _ (λ n en. same_erases fns _ _ refl))
+  numeric_erases profile op l sig (suc (suc zero)) vs = pop_erases fns (value_type sig.operand l) vs _ _ (λ b below. pop_erases fns (value_type sig.operand l) below _ _ (λ a below'.
+      index_erases fns (value2 op a b) _ _ (λ r er. showing_erases (leaks op profile) l a b _ _ (outcome_erased (value_type sig.result l) below' r))))
+  numeric_erases profile op l sig (suc (suc (suc more))) vs = stuck_erases fns stuck
 
   with_local_erased : (x : ℕ) (v : Value) (vs : List Value) → erase_reduced fns (quiet (Goes s (put (with_local h x v) rest vs))) ≡ quiet (Goes (erase_storage s) (put (with_local (erased_here fns h) x (erase_value v)) rest' (map erase_value vs)))
   with_local_erased x v vs = ap (λ (l : List Value). quiet (Goes (erase_storage s) (put (record (erased_here fns h) { locals = l }) rest' (map erase_value vs)))) (map-set erase_value h.locals x v)
 
-  leaf_erases : (i : Leaf Label) (vs : List Value) → ((y : ℕ) → i ≡ CallIndirect y → UsersOf fns fn s y) → free (Then i rest) ≡ 0 → Erases fns (leaf fns fn s h rest i vs) (next (erase_functions fns) (erase_instance fn) (erase_storage s) (erased_here fns h) (erase_leaf (entries_here fns h) i rest') (map erase_value vs))
+  leaf_erases : (i : Leaf Label) (vs : List Value) → ((y : ℕ) → i ≡ CallIndirect y → UsersOf fns fn s y) → free (Then i rest) ≡ 0 → Erases fns (leaf fns fn s h rest i vs) (next (erase_functions fns) (erase_instance fn) (erase_storage s) (erased_here fns h) (in_front_of (erase_leaf (entries_here fns h) i) rest') (map erase_value vs))
   leaf_erases Unreachable vs u z = same_erases fns _ _ refl
   leaf_erases Nop vs u z = same_erases fns _ _ refl
   leaf_erases (Br k) vs u z = branch_erases fns quiet (quiet_tells fns) s h k (innermost h rest vs ∷ h.outer) vs
@@ -120,9 +125,9 @@ module _ (fns : Functions) (fn : FunctionInstance) (s : Storage) (h : Here) (fou
   leaf_erases (GlobalGet x) vs u z = index_erases fns (slice_get fn.part.globals x) _ _ (λ i ei. look_erases fns erase_global s.globals i _ _ (λ g eg. same_erases fns _ _ refl))
   leaf_erases (GlobalSet x) vs u z = index_erases fns (slice_get fn.part.globals x) _ _ (λ i ei. look_erases fns erase_global s.globals i _ _ (λ g eg. provided_erases fns g.mutable g.mutable _ _ (λ e. e) (pop_erases fns g.value.type vs _ _ (λ n below. same_erases fns _ _
       (ap (λ (t : Storage). quiet (Goes t (put (erased_here fns h) rest' (map erase_value below)))) (number_erased s i g n))))))
-  leaf_erases (Load w l n signed align offset) vs u z = index_erases fns fn.part.memory _ _ (λ i ei. look_erases fns erase_memory s.memories i _ _ (λ m em. provided_erases fns (same_label l m.label) true _ _ (λ _. refl) (pop_erases fns i32 vs _ _ (λ at below. same_erases fns _ _
+  leaf_erases (Load w l n signed align offset) vs u z = index_erases fns fn.part.memory _ _ (λ i ei. look_erases fns erase_memory s.memories i _ _ (λ m em. provided_erases fns (same_label l m.type.tag) true _ _ (λ _. refl) (pop_erases fns i32 vs _ _ (λ at below. same_erases fns _ _
       (ap (noting (Events.Load i (at + offset) n)) (cond_erased fns (nat_le (at + offset + n) (length m.bytes)) (nat_le (at + offset + n) (length m.bytes)) _ _ _ _ refl refl refl))))))
-  leaf_erases (Store w l n align offset) vs u z = index_erases fns fn.part.memory _ _ (λ i ei. look_erases fns erase_memory s.memories i _ _ (λ m em. provided_erases fns (same_label l m.label) true _ _ (λ _. refl) (pop_erases fns (value_type w l) vs _ _ (λ x below. pop_erases fns i32 below _ _ (λ at below'. same_erases fns _ _
+  leaf_erases (Store w l n align offset) vs u z = index_erases fns fn.part.memory _ _ (λ i ei. look_erases fns erase_memory s.memories i _ _ (λ m em. provided_erases fns (same_label l m.type.tag) true _ _ (λ _. refl) (pop_erases fns (value_type w l) vs _ _ (λ x below. pop_erases fns i32 below _ _ (λ at below'. same_erases fns _ _
       (ap (noting (Events.Store i (at + offset) n)) (cond_erased fns (nat_le (at + offset + n) (length m.bytes)) (nat_le (at + offset + n) (length m.bytes)) _ _ _ _ refl
       (ap (λ (t : Storage). Goes t (put (erased_here fns h) rest' (map erase_value below'))) (bytes_erased s i m (written_at (at + offset) (bytes_of_number n x) m.bytes))) refl)))))))
   leaf_erases MemorySize vs u z = index_erases fns fn.part.memory _ _ (λ i ei. look_erases fns erase_memory s.memories i _ _ (λ m em. same_erases fns _ _ refl))
@@ -130,7 +135,7 @@ module _ (fns : Functions) (fn : FunctionInstance) (s : Storage) (h : Here) (fou
       (ap (noting (Events.Grow n)) (cond_erased fns (may_grow s m n) (may_grow (erase_storage s) (erase_memory m) n) _ _ _ _ (may_grow_erased s m n)
       (ap (λ (t : Storage). Goes t (put (erased_here fns h) rest' (value i32 (pages m) ∷ map erase_value below))) (bytes_erased s i m (grown m n))) refl)))))
   leaf_erases (Const w l n) vs u z = same_erases fns _ _ refl
-  leaf_erases (Numeric op l) vs u z = numeric_erases op l (num_sig_of op).arity vs
+  leaf_erases (Numeric op l) vs u z = index_erases fns (num_sig_of op) _ _ (λ sig es. numeric_erases fn.part.profile op l sig sig.arity vs)
   leaf_erases (Classify w) vs u z = cc
   leaf_erases (Declassify w) vs u z = cc
 

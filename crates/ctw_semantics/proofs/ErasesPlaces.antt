@@ -15,7 +15,7 @@ use Rattle.ctw_semantics.specs.Activations.{Open, Frame}
 use Rattle.ctw_semantics.specs.Answers.{Answer, Goes, Stuck, Reduced, quiet, noting, stuck, pops, carry}
 use Rattle.ctw_semantics.specs.Machine.{Here, put, receive, resume, finish, leave, rerun, target_type, arrive, label_at, branch, pass, invoke}
 use Rattle.ctw_semantics.specs.Erased.{erase_instance, erase_value, erase_storage, entries_of, erase_open, erase_frame, erase_answer}
-use Rattle.ctw_semantics.proofs.Lists.{map-upon}
+use Rattle.ctw_ops.proofs.Lists.{map-upon}
 use Rattle.ctw_semantics.proofs.Erases.{Erases, stuck_erases, carry_erases, pops_erases}
 
 module _ (fns : Functions) where

@@ -6,18 +6,21 @@ use Rattle.ctw_ops.specs.declared.types.Label.TheVariants.{Public, Secret}
 use Rattle.ctw_ops.specs.declared.types.Width.TheVariants.{W32, W64}
 use Rattle.ctw_ops.specs.declared.types.Trust.TheVariants.{Untrusted, Trusted}
 use Rattle.ctw_ops.specs.Types.{ValueType, FunctionType, value_type}
-use Rattle.ctw_ops.specs.Numeric.{num_sig_of, is_timed}
-use Rattle.ctw_ops.specs.Code.{Leaf, Unreachable, Br, BrIf, BrTable, Return, Call, CallIndirect, Drop, Select, LocalGet, LocalSet, LocalTee, GlobalGet, GlobalSet, Load, Store, MemoryGrow, Const, Numeric, Classify, Declassify, Code, Stop, Then, Block, Loop, If, IfElse, straight}
+use Rattle.ctw_ops.specs.declared.numeric.Profile.{Profile}
+use Rattle.ctw_ops.specs.declared.numeric.Profile.TheVariants.{Divide, Multiply}
+use Rattle.ctw_ops.specs.Numeric.{num_sig_of, is_timed, is_product, leaks}
+use Rattle.ctw_ops.specs.Code.{Leaf, Unreachable, Br, BrIf, BrTable, Return, Call, CallIndirect, Drop, Select, LocalGet, LocalSet, LocalTee, GlobalGet, GlobalSet, Load, Store, MemorySize, MemoryGrow, Const, Numeric, Classify, Declassify, Code, Stop, Then, Block, Loop, If, IfElse, straight}
 use Rattle.ctw_num.specs.Integers.{idiv_s, irem_s, truncated, remainder, signed, unsigned, bitwise, iand, ior, ixor}
-use Rattle.ctw_num.specs.Values.{value1, unary32, value2, binary32, arithmetic32, comparison32, division32}
+use Rattle.ctw_num.specs.Values.{value1, unary32, unary64, value2, binary32, binary64, arithmetic32, arithmetic64, comparison32, division32}
 use Rattle.ctw_script.specs.declared.trap.TrapCode.{TrapCode}
 use Rattle.ctw_script.specs.declared.trap.TrapCode.TheVariants.{DivZero, DivOverflow, MemoryBounds, TableBounds, EmptyEntry, CallType, Exhausted}
 use Rattle.ctw_script.specs.declared.event.Event.{Event}
 use Rattle.ctw_script.specs.declared.event.Event.TheVariants as Events
 use Rattle.ctw_semantics.specs.Values.{Value, value, i32}
-use Rattle.ctw_semantics.specs.Stores.{Storage, may_grow, number_at, written_at}
+use Rattle.ctw_semantics.specs.Stores.{Memory, Global, Table, Storage, fresh_memory, fresh_table, may_grow, number_at, written_at}
 use Rattle.ctw_semantics.specs.Instances.{ModuleInstance, FunctionInstance, Functions}
-use Rattle.ctw_semantics.specs.Activations.{Activation, weight, most_weight}
+use Rattle.ctw_ops.specs.Limits.{most_memory_pages, most_set_pages, most_weight}
+use Rattle.ctw_semantics.specs.Activations.{Activation, weight}
 use Rattle.ctw_semantics.specs.Machine.{begun}
 use Rattle.ctw_semantics.specs.Answers as Answers
 use Rattle.ctw_semantics.specs.Answers.{Goes}
@@ -35,7 +38,7 @@ s32 = value_type W32 Secret
 
 -- one function, numbered 0, over memory 0 and table 0
 abbrev part : ModuleInstance
-part = record { types = []; functions = 0 ∷ []; globals = []; memory = Some 0; table = Some 0 }
+part = record { profile = Divide; types = []; functions = 0 ∷ []; globals = []; memory = Some 0; table = Some 0 }
 
 abbrev signature : List (ValueType Label) → Option (ValueType Label) → FunctionType Label
 signature params result = record { trust = Untrusted; params = params; result = result }
@@ -48,7 +51,7 @@ empty = record { memories = []; globals = []; tables = [] }
 
 -- a store with one memory of these bytes
 abbrev over : Label → Option ℕ → List ℕ → Storage
-over label max bytes = record { memories = record { label = label; max = max; bytes = bytes } ∷ []; globals = []; tables = [] }
+over label max bytes = record { memories = record { type = record { tag = label; limits = record { min = 0; max = max } }; bytes = bytes } ∷ []; globals = []; tables = [] }
 
 abbrev page : List ℕ
 page = replicate 65536 0
@@ -72,11 +75,11 @@ abbrev adds : FunctionInstance
 adds = function (signature (s32 ∷ i32 ∷ []) (Some s32)) (straight (LocalGet 0 ∷ LocalGet 1 ∷ Classify W32 ∷ Numeric 0x6A Secret ∷ []))
 
 five_and_seven : run adds empty (value s32 5 ∷ value i32 7 ∷ []) ≡ done empty 4 (Some (value s32 12)) [] []
-unfolding num_sig_of is_timed value2 binary32 arithmetic32 most_weight
+unfolding num_sig_of leaks is_timed is_product value2 binary32 arithmetic32 most_weight
 five_and_seven = refl
 
 sum_wraps : run adds empty (value s32 4294967295 ∷ value i32 7 ∷ []) ≡ done empty 4 (Some (value s32 6)) [] []
-unfolding num_sig_of is_timed value2 binary32 arithmetic32 most_weight
+unfolding num_sig_of leaks is_timed is_product value2 binary32 arithmetic32 most_weight
 sum_wraps = refl
 
 -- ---- the bit of a secret is released
@@ -85,11 +88,11 @@ abbrev bit : FunctionInstance
 bit = function (record { trust = Trusted; params = s32 ∷ []; result = Some i32 }) (straight (LocalGet 0 ∷ Const W32 Secret 1 ∷ Numeric 0x71 Secret ∷ Declassify W32 ∷ []))
 
 bit_of_three : run bit empty (value s32 3 ∷ []) ≡ done empty 4 (Some (value i32 1)) [] (1 ∷ [])
-unfolding num_sig_of is_timed value2 binary32 arithmetic32 iand bitwise most_weight
+unfolding num_sig_of leaks is_timed is_product value2 binary32 arithmetic32 iand bitwise most_weight
 bit_of_three = refl
 
 bit_of_four : run bit empty (value s32 4 ∷ []) ≡ done empty 4 (Some (value i32 0)) [] (0 ∷ [])
-unfolding num_sig_of is_timed value2 binary32 arithmetic32 iand bitwise most_weight
+unfolding num_sig_of leaks is_timed is_product value2 binary32 arithmetic32 iand bitwise most_weight
 bit_of_four = refl
 
 -- ---- divisions show their operands, and trap with their event
@@ -98,19 +101,19 @@ abbrev divides : ℕ → FunctionInstance
 divides op = function (signature (i32 ∷ i32 ∷ []) (Some i32)) (straight (LocalGet 0 ∷ LocalGet 1 ∷ Numeric op Public ∷ []))
 
 remainder_of_the_least : run (divides 0x6F) empty (value i32 2147483648 ∷ value i32 4294967295 ∷ []) ≡ done empty 4 (Some (value i32 0)) (Events.Divide 2147483648 4294967295 ∷ []) []
-unfolding num_sig_of is_timed value2 binary32 division32 irem_s remainder signed unsigned most_weight
+unfolding num_sig_of leaks is_timed is_product value2 binary32 division32 irem_s remainder signed unsigned most_weight
 remainder_of_the_least = refl
 
 quotient_of_the_least : run (divides 0x6D) empty (value i32 2147483648 ∷ value i32 4294967295 ∷ []) ≡ trap empty 3 DivOverflow (Events.Divide 2147483648 4294967295 ∷ [])
-unfolding num_sig_of is_timed value2 binary32 division32 idiv_s truncated signed unsigned most_weight
+unfolding num_sig_of leaks is_timed is_product value2 binary32 division32 idiv_s truncated signed unsigned most_weight
 quotient_of_the_least = refl
 
 quotient_by_zero : run (divides 0x6E) empty (value i32 7 ∷ value i32 0 ∷ []) ≡ trap empty 3 DivZero (Events.Divide 7 0 ∷ [])
-unfolding num_sig_of is_timed value2 binary32 division32 most_weight
+unfolding num_sig_of leaks is_timed is_product value2 binary32 division32 most_weight
 quotient_by_zero = refl
 
 secret_quotient_is_stuck : run (function (signature (s32 ∷ s32 ∷ []) (Some s32)) (straight (LocalGet 0 ∷ LocalGet 1 ∷ Numeric 0x6E Secret ∷ []))) empty (value s32 7 ∷ value s32 2 ∷ []) ≡ stuck empty 3
-unfolding num_sig_of is_timed value2 binary32 division32 most_weight
+unfolding num_sig_of leaks is_timed is_product value2 binary32 division32 most_weight
 secret_quotient_is_stuck = refl
 
 -- ---- loads: the last word of a page, one past it, and an address above 2^32
@@ -162,15 +165,15 @@ abbrev two_pages : Storage
 two_pages = over Secret (Some 2) (page ++ page)
 
 grows_once : run grows (over Secret (Some 2) page) (value i32 1 ∷ []) ≡ done two_pages 3 (Some (value i32 1)) (Events.Grow 1 ∷ []) []
-unfolding most_weight may_grow
+unfolding most_weight may_grow most_memory_pages most_set_pages
 grows_once = refl
 
 grows_no_more : run grows two_pages (value i32 1 ∷ []) ≡ done two_pages 3 (Some (value i32 4294967295)) (Events.Grow 1 ∷ []) []
-unfolding most_weight may_grow
+unfolding most_weight may_grow most_memory_pages most_set_pages
 grows_no_more = refl
 
 grows_by_nothing : run grows two_pages (value i32 0 ∷ []) ≡ done two_pages 3 (Some (value i32 2)) (Events.Grow 0 ∷ []) []
-unfolding most_weight may_grow
+unfolding most_weight may_grow most_memory_pages most_set_pages
 grows_by_nothing = refl
 
 -- ---- two calls take turns over one memory
@@ -254,7 +257,7 @@ abbrev counts : FunctionInstance
 counts = of_i32 (Loop None (straight (LocalGet 0 ∷ Const W32 Public 1 ∷ Numeric 0x6B Public ∷ LocalTee 0 ∷ BrIf 0 ∷ [])) (straight (LocalGet 0 ∷ [])))
 
 counts_down : run counts empty (value i32 2 ∷ []) ≡ done empty 15 (Some (value i32 0)) (Events.Branch true ∷ Events.Branch false ∷ []) []
-unfolding num_sig_of is_timed value2 binary32 arithmetic32 most_weight
+unfolding num_sig_of leaks is_timed is_product value2 binary32 arithmetic32 most_weight
 counts_down = refl
 
 -- a branch table shows its operand; the default is taken past the targets
@@ -302,14 +305,14 @@ abbrev twins : Storage
 twins = over Secret None (replicate 32 9 ++ replicate 32 9)
 
 equal_bytes : run compares twins (value i32 0 ∷ value i32 32 ∷ []) ≡ done twins 644 (Some (value s32 1)) (rounds 32 0) []
-unfolding num_sig_of is_timed value1 unary32 value2 binary32 arithmetic32 comparison32 ior ixor bitwise most_weight number_at
+unfolding num_sig_of leaks is_timed is_product value1 unary32 value2 binary32 arithmetic32 comparison32 ior ixor bitwise most_weight number_at
 equal_bytes = refl
 
 abbrev others : Storage
 others = over Secret None (replicate 32 9 ++ replicate 31 9 ++ 8 ∷ [])
 
 other_bytes : run compares others (value i32 0 ∷ value i32 32 ∷ []) ≡ done others 644 (Some (value s32 0)) (rounds 32 0) []
-unfolding num_sig_of is_timed value1 unary32 value2 binary32 arithmetic32 comparison32 ior ixor bitwise most_weight number_at
+unfolding num_sig_of leaks is_timed is_product value1 unary32 value2 binary32 arithmetic32 comparison32 ior ixor bitwise most_weight number_at
 other_bytes = refl
 
 -- ---- label instructions behind the last step of a turn run in the next one
@@ -342,7 +345,7 @@ abbrev takes : ValueType Label → FunctionInstance
 takes t = function (signature (t ∷ []) None) Stop
 
 abbrev through : Storage
-through = record empty { tables = record { max = None; entries = Some 1 ∷ None ∷ [] } ∷ [] }
+through = record empty { tables = record { limits = record { min = 2; max = None }; entries = Some 1 ∷ None ∷ [] } ∷ [] }
 
 abbrev calls : ℕ → ValueType Label → Turned
 calls index t = turn 1000000 (indirect (signature (i32 ∷ []) None) ∷ takes t ∷ []) through (begun 0 (indirect (signature (i32 ∷ []) None)) (value i32 index ∷ []))
@@ -401,11 +404,11 @@ light = refl
 -- ---- two secrets whose low bits are equal look the same; the run that releases another bit doesn't
 
 bits_look_the_same : seen_turned (run bit empty (value s32 3 ∷ [])) ≡ seen_turned (run bit empty (value s32 5 ∷ []))
-unfolding num_sig_of is_timed value2 binary32 arithmetic32 iand bitwise most_weight
+unfolding num_sig_of leaks is_timed is_product value2 binary32 arithmetic32 iand bitwise most_weight
 bits_look_the_same = refl
 
 another_bit : seen_turned (run bit empty (value s32 3 ∷ [])) ≡ seen_turned (run bit empty (value s32 4 ∷ [])) → ⊥
-unfolding num_sig_of is_timed value2 binary32 arithmetic32 iand bitwise most_weight
+unfolding num_sig_of leaks is_timed is_product value2 binary32 arithmetic32 iand bitwise most_weight
 another_bit e = let released : 1 ≡ 0 = ap bit_of (ap (λ (x : Turned). x.left) e) in absurd (omega (arith, released))
   where
     number_of : Option Value → ℕ
@@ -419,7 +422,7 @@ another_bit e = let released : 1 ≡ 0 = ap bit_of (ap (λ (x : Turned). x.left)
 -- ---- the erased call takes the same steps and releases nothing
 
 erased_bit : turn 1000000 (erase_functions (bit ∷ [])) empty (erase_activation (bit ∷ []) (begun 0 bit (value s32 3 ∷ []))) ≡ done empty 4 (Some (value i32 1)) [] []
-unfolding num_sig_of is_timed value2 binary32 arithmetic32 iand bitwise most_weight
+unfolding num_sig_of leaks is_timed is_product value2 binary32 arithmetic32 iand bitwise most_weight
 erased_bit = refl
 
 -- a call through a variant, and erased through its base
@@ -449,6 +452,7 @@ erased_entries = refl
 abbrev module_of : Bool → List (TypeEntry Label) → ℕ → Label → Code Label → Module Label
 module_of ct types type l body = record {
   ct = ct;
+  profile = Multiply;
   types = types;
   imports =
       record { module_name = 97 ∷ []; name = 102 ∷ []; kind = ImportedFunction type }
@@ -468,6 +472,206 @@ erased_module :
     erase_module (module_of true two_types 1 Secret (straight (LocalGet 0 ∷ Classify W32 ∷ Const W32 Secret 1 ∷ Numeric 0x6A Secret ∷ Drop ∷ Const W32 Public 0 ∷ CallIndirect 1 ∷ [])))
     ≡ module_of false (record { base = None; type = signature (i32 ∷ []) None } ∷ []) 0 Public (straight (LocalGet 0 ∷ Const W32 Public 1 ∷ Numeric 0x6A Public ∷ Drop ∷ Const W32 Public 0 ∷ CallIndirect 0 ∷ []))
 erased_module = refl
+
+-- ---- a set of two parts: the second's memory, global, table and function have index 0 there and number 1 in the store
+
+abbrev second_part : Profile → ModuleInstance
+second_part profile = record {
+  profile = profile;
+  types = record { base = None; type = signature [] (Some i32) } ∷ [];
+  functions = 1 ∷ [];
+  globals = 1 ∷ [];
+  memory = Some 1;
+  table = Some 1;
+}
+
+abbrev in_second : FunctionType Label → Code Label → FunctionInstance
+in_second type body = record { part = second_part Divide; type = type; locals = []; body = body }
+
+abbrev gives : ModuleInstance → ℕ → FunctionInstance
+gives part n = record { part = part; type = signature [] (Some i32); locals = []; body = straight (Const W32 Public n ∷ []) }
+
+abbrev public_memory : List ℕ → Memory
+public_memory bytes = record { type = record { tag = Public; limits = record { min = 0; max = None } }; bytes = bytes }
+
+abbrev public_global : ℕ → Global
+public_global n = record { mutable = true; value = value i32 n }
+
+abbrev one_entry : ℕ → Table
+one_entry f = record { limits = record { min = 1; max = Some 1 }; entries = Some f ∷ [] }
+
+abbrev of_two : List ℕ → List ℕ → ℕ → Storage
+of_two first second n = record {
+  memories = public_memory first ∷ public_memory second ∷ [];
+  globals = public_global 40 ∷ public_global n ∷ [];
+  tables = one_entry 0 ∷ one_entry 1 ∷ [];
+}
+
+abbrev two_parts : Storage
+two_parts = of_two (1 ∷ 2 ∷ 3 ∷ 4 ∷ []) (5 ∷ 6 ∷ 7 ∷ 8 ∷ []) 50
+
+-- a body of the second part runs as function 2, where function 0 is the first part's
+abbrev run_second : FunctionType Label → List (Leaf Label) → Storage → List Value → Turned
+run_second type leaves s args =
+    let fns = gives part 60 ∷ gives (second_part Divide) 70 ∷ in_second type (straight leaves) ∷ [] in
+    turn 1000000 fns s (begun 2 (in_second type (straight leaves)) args)
+
+enters_function_one : run_second (signature [] (Some i32)) (Call 0 ∷ []) two_parts [] ≡ done two_parts 4 (Some (value i32 70)) (Events.Enter 1 ∷ []) []
+unfolding most_weight
+enters_function_one = refl
+
+calls_through_table_one : run_second (signature [] (Some i32)) (Const W32 Public 0 ∷ CallIndirect 0 ∷ []) two_parts [] ≡ done two_parts 5 (Some (value i32 70)) (Events.Indirect 0 (Some 1) ∷ []) []
+unfolding most_weight
+calls_through_table_one = refl
+
+reads_global_one : run_second (signature [] (Some i32)) (GlobalGet 0 ∷ []) two_parts [] ≡ done two_parts 2 (Some (value i32 50)) [] []
+unfolding most_weight
+reads_global_one = refl
+
+writes_global_one : run_second (signature [] None) (seven ∷ GlobalSet 0 ∷ []) two_parts [] ≡ done (of_two (1 ∷ 2 ∷ 3 ∷ 4 ∷ []) (5 ∷ 6 ∷ 7 ∷ 8 ∷ []) 7) 3 None [] []
+unfolding most_weight
+writes_global_one = refl
+
+-- the address is the operand and the offset
+loads_from_memory_one : run_second (signature [] (Some i32)) (Const W32 Public 1 ∷ Load W32 Public 1 false 0 2 ∷ []) two_parts [] ≡ done two_parts 3 (Some (value i32 8)) (Events.Load 1 3 1 ∷ []) []
+unfolding most_weight number_at
+loads_from_memory_one = refl
+
+loads_past_memory_one : run_second (signature [] (Some i32)) (Const W32 Public 1 ∷ Load W32 Public 1 false 0 3 ∷ []) two_parts [] ≡ trap two_parts 2 MemoryBounds (Events.Load 1 4 1 ∷ [])
+unfolding most_weight number_at
+loads_past_memory_one = refl
+
+stores_into_memory_one : run_second (signature [] None) (Const W32 Public 1 ∷ Const W32 Public 515 ∷ Store W32 Public 2 0 1 ∷ []) two_parts []
+    ≡ done (of_two (1 ∷ 2 ∷ 3 ∷ 4 ∷ []) (5 ∷ 6 ∷ 3 ∷ 2 ∷ []) 50) 4 None (Events.Store 1 2 2 ∷ []) []
+unfolding most_weight written_at
+stores_into_memory_one = refl
+
+stores_past_memory_one : run_second (signature [] None) (Const W32 Public 1 ∷ Const W32 Public 515 ∷ Store W32 Public 2 0 2 ∷ []) two_parts [] ≡ trap two_parts 3 MemoryBounds (Events.Store 1 3 2 ∷ [])
+unfolding most_weight written_at
+stores_past_memory_one = refl
+
+size_of_memory_one : run_second (signature [] (Some i32)) (MemorySize ∷ []) (of_two [] page 50) [] ≡ done (of_two [] page 50) 2 (Some (value i32 1)) [] []
+unfolding most_weight
+size_of_memory_one = refl
+
+grows_memory_one : run_second (signature [] (Some i32)) (Const W32 Public 1 ∷ MemoryGrow ∷ []) (of_two [] page 50) [] ≡ done (of_two [] (page ++ page) 50) 3 (Some (value i32 1)) (Events.Grow 1 ∷ []) []
+unfolding most_weight may_grow most_memory_pages most_set_pages
+grows_memory_one = refl
+
+-- ---- memories and tables as they begin
+
+fresh_page : fresh_memory (record { tag = Secret; limits = record { min = 1; max = Some 2 } }) ≡ record { type = record { tag = Secret; limits = record { min = 1; max = Some 2 } }; bytes = page }
+fresh_page = refl
+
+fresh_entries : fresh_table (record { min = 2; max = None }) ≡ record { limits = record { min = 2; max = None }; entries = None ∷ None ∷ [] }
+fresh_entries = refl
+
+-- ---- a multiplication shows its operands where its module's profile says so, and has public ones there
+
+abbrev multiplies : Profile → ℕ → ValueType Label → FunctionInstance
+multiplies profile op t = record {
+  part = record part { profile = profile };
+  type = signature (t ∷ t ∷ []) (Some t);
+  locals = [];
+  body = straight (LocalGet 0 ∷ LocalGet 1 ∷ Numeric op t.tag ∷ []);
+}
+
+abbrev product : Profile → ℕ → ValueType Label → Turned
+product profile op t = run (multiplies profile op t) empty (value t 6 ∷ value t 7 ∷ [])
+
+abbrev i64 : ValueType Label
+i64 = value_type W64 Public
+
+quiet_product : product Divide 0x6C i32 ≡ done empty 4 (Some (value i32 42)) [] []
+unfolding num_sig_of leaks is_timed is_product value2 binary32 arithmetic32 most_weight
+quiet_product = refl
+
+shown_product : product Multiply 0x6C i32 ≡ done empty 4 (Some (value i32 42)) (Events.Divide 6 7 ∷ []) []
+unfolding num_sig_of leaks is_timed is_product value2 binary32 arithmetic32 most_weight
+shown_product = refl
+
+quiet_wide_product : product Divide 0x7E i64 ≡ done empty 4 (Some (value i64 42)) [] []
+unfolding num_sig_of leaks is_timed is_product value2 binary64 arithmetic64 most_weight
+quiet_wide_product = refl
+
+shown_wide_product : product Multiply 0x7E i64 ≡ done empty 4 (Some (value i64 42)) (Events.Divide 6 7 ∷ []) []
+unfolding num_sig_of leaks is_timed is_product value2 binary64 arithmetic64 most_weight
+shown_wide_product = refl
+
+secret_product : product Divide 0x6C s32 ≡ done empty 4 (Some (value s32 42)) [] []
+unfolding num_sig_of leaks is_timed is_product value2 binary32 arithmetic32 most_weight
+secret_product = refl
+
+shown_secret_product_is_stuck : product Multiply 0x6C s32 ≡ stuck empty 3
+unfolding num_sig_of leaks is_timed is_product value2 binary32 arithmetic32 most_weight
+shown_secret_product_is_stuck = refl
+
+-- a sum shows nothing under either, and a quotient shows its operands under both
+sum_shows_nothing : product Multiply 0x6A i32 ≡ done empty 4 (Some (value i32 13)) [] []
+unfolding num_sig_of leaks is_timed is_product value2 binary32 arithmetic32 most_weight
+sum_shows_nothing = refl
+
+quotient_is_shown : product Multiply 0x6E i32 ≡ done empty 4 (Some (value i32 0)) (Events.Divide 6 7 ∷ []) []
+unfolding num_sig_of leaks is_timed is_product value2 binary32 division32 most_weight
+quotient_is_shown = refl
+
+-- each function runs under the profile of its own module
+abbrev squares : Profile → FunctionInstance
+squares profile = record { part = record part { profile = profile }; type = signature [] (Some i32); locals = []; body = straight (seven ∷ seven ∷ Numeric 0x6C Public ∷ []) }
+
+abbrev calls_and_squares : Profile → FunctionInstance
+calls_and_squares profile = record {
+  part = record part { profile = profile; functions = 1 ∷ [] };
+  type = signature [] (Some i32);
+  locals = [];
+  body = straight (Call 0 ∷ Const W32 Public 2 ∷ Numeric 0x6C Public ∷ []);
+}
+
+abbrev mixed : Profile → Profile → Turned
+mixed outer inner = turn 1000000 (calls_and_squares outer ∷ squares inner ∷ []) empty (begun 0 (calls_and_squares outer) [])
+
+callee_shows : mixed Divide Multiply ≡ done empty 8 (Some (value i32 98)) (Events.Enter 1 ∷ Events.Divide 7 7 ∷ []) []
+unfolding num_sig_of leaks is_timed is_product value2 binary32 arithmetic32 most_weight
+callee_shows = refl
+
+caller_shows : mixed Multiply Divide ≡ done empty 8 (Some (value i32 98)) (Events.Enter 1 ∷ Events.Divide 49 2 ∷ []) []
+unfolding num_sig_of leaks is_timed is_product value2 binary32 arithmetic32 most_weight
+caller_shows = refl
+
+-- ---- sign extensions: the low bits are read as signed
+
+abbrev extends : ℕ → ValueType Label → ℕ → Turned
+extends op t n = run (function (signature (t ∷ []) (Some t)) (straight (LocalGet 0 ∷ Numeric op t.tag ∷ []))) empty (value t n ∷ [])
+
+abbrev extended : ValueType Label → ℕ → Turned
+extended t n = done empty 3 (Some (value t n)) [] []
+
+of_8_bits :
+    (extends 0xC0 i32 127 ≡ extended i32 127) × (extends 0xC0 i32 128 ≡ extended i32 4294967168) × (extends 0xC0 i32 255 ≡ extended i32 4294967295)
+    × (extends 0xC0 i32 384 ≡ extended i32 4294967168) × (extends 0xC0 s32 128 ≡ extended s32 4294967168)
+unfolding num_sig_of value1 unary32 signed unsigned most_weight
+of_8_bits = (refl, refl, refl, refl, refl)
+
+of_16_bits : (extends 0xC1 i32 32767 ≡ extended i32 32767) × (extends 0xC1 i32 32768 ≡ extended i32 4294934528) × (extends 0xC1 i32 65535 ≡ extended i32 4294967295) × (extends 0xC1 i32 65536 ≡ extended i32 0)
+unfolding num_sig_of value1 unary32 signed unsigned most_weight
+of_16_bits = (refl, refl, refl, refl)
+
+of_8_bits_wide : (extends 0xC2 i64 127 ≡ extended i64 127) × (extends 0xC2 i64 128 ≡ extended i64 18446744073709551488) × (extends 0xC2 i64 384 ≡ extended i64 18446744073709551488)
+unfolding num_sig_of value1 unary64 signed unsigned most_weight
+of_8_bits_wide = (refl, refl, refl)
+
+of_16_bits_wide : (extends 0xC3 i64 32767 ≡ extended i64 32767) × (extends 0xC3 i64 32768 ≡ extended i64 18446744073709518848) × (extends 0xC3 i64 65536 ≡ extended i64 0)
+unfolding num_sig_of value1 unary64 signed unsigned most_weight
+of_16_bits_wide = (refl, refl, refl)
+
+of_32_bits_wide : (extends 0xC4 i64 2147483647 ≡ extended i64 2147483647) × (extends 0xC4 i64 2147483648 ≡ extended i64 18446744071562067968) × (extends 0xC4 i64 9223372036854775808 ≡ extended i64 0)
+unfolding num_sig_of value1 unary64 signed unsigned most_weight
+of_32_bits_wide = (refl, refl, refl)
+
+-- what is no operation has no reduction
+no_operation_is_stuck : extends 0xC5 i32 1 ≡ stuck empty 2
+unfolding num_sig_of value1 most_weight
+no_operation_is_stuck = refl
 
 -- ---- a function that calls itself without end traps when a million frames are open
 

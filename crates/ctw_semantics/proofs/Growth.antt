@@ -7,7 +7,8 @@ use Rattle.ctw_script.specs.declared.trap.TrapCode.TheVariants.{Exhausted}
 use Rattle.ctw_semantics.specs.Values.{Value, value, i32}
 use Rattle.ctw_semantics.specs.Stores.{Memory, Storage, may_grow, with_bytes, pages, grown}
 use Rattle.ctw_semantics.specs.Instances.{FunctionInstance, Functions}
-use Rattle.ctw_semantics.specs.Activations.{Open, Activation, labels_weight, weight, most_weight}
+use Rattle.ctw_ops.specs.Limits.{most_weight}
+use Rattle.ctw_semantics.specs.Activations.{Open, Activation, labels_weight, weight}
 use Rattle.ctw_semantics.specs.Answers.{Goes, Trapped, noting, given}
 use Rattle.ctw_semantics.specs.Machine.{Here, innermost, put, next, limited, red}
 

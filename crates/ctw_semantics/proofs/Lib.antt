@@ -1,7 +1,4 @@
-pub mod Tests
 pub mod Memories
-pub mod Lists
-pub mod Arities
 pub mod Entries
 pub mod Alike
 pub mod AlikePlaces

@@ -6,6 +6,6 @@ pub length-bytes_of_number : (count n : ℕ) → length (bytes_of_number count n
 length-bytes_of_number zero n = refl
 length-bytes_of_number (suc count) n = ap suc (length-bytes_of_number count (n / 256))
 
-pub length-written_at : (at : ℕ) (new bytes : List ℕ) → length (written_at at new bytes) ≡ min at (length bytes) + (length new + (length bytes - (at + length new)))
+pub length-written_at : {A : Type 0} (at : ℕ) (new bytes : List A) → length (written_at at new bytes) ≡ min at (length bytes) + (length new + (length bytes - (at + length new)))
 unfolding written_at
 length-written_at at new bytes = simp (length-append, length-take, length-drop)

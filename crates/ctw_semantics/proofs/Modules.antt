@@ -8,7 +8,8 @@ use Rattle.ctw_ops.specs.declared.types.Label.TheVariants.{Public}
 use Rattle.ctw_ops.specs.Types.{FunctionType, VariableType, MemoryType, erase_value_type, erase_function_type}
 use Rattle.std.proofs.lemmas.List.{map-append}
 use Rattle.std.specs.List.{cons_option}
-use Rattle.ctw_ops.specs.Erasure.{kept_entry, erase_entries, base_of, VariantsFit, erase_code, erase_variable_type, erase_memory_type, erase_extern, erase_import, erase_function, erase_global, erase_module}
+use Rattle.ctw_ops.proofs.Variants.{VariantsFit}
+use Rattle.ctw_ops.specs.Erasure.{kept_entry, erase_entries, base_of, erase_code, erase_variable_type, erase_memory_type, erase_extern, erase_import, erase_function, erase_global, erase_module}
 use Rattle.ctw_ops.specs.Tree.{TypeEntry, Extern, ImportedFunction, ImportedTable, ImportedMemory, ImportedGlobal, Import, Module, Function, Global, with_function, with_global, or_memory, or_table, imported_functions, imported_globals, memory_among, table_among, function_entries, global_types, no_function_type, type_named}
 use Rattle.ctw_ops.specs.Typing.{Typed, optional}
 use Rattle.ctw_ops.specs.Bodies.{context_of, HasItsType}
@@ -16,15 +17,15 @@ use Rattle.ctw_semantics.specs.Instances.{ModuleInstance, Functions}
 use Rattle.ctw_semantics.specs.Sound.{context, AllUntrusted}
 use Rattle.ctw_semantics.specs.Modules.{instance_of, index_types}
 use Rattle.ctw_semantics.specs.Erased.{erase_part, erase_instance, erase_functions}
-use Rattle.ctw_semantics.proofs.Lists.{map_get, map-optional}
+use Rattle.ctw_ops.proofs.Lists.{map_get, map-optional}
 use Rattle.ctw_semantics.proofs.ErasedTyping.{ErasesTo, code_erased}
 use Rattle.ctw_semantics.proofs.Entries.{entry_of, base_erased}
 
-pub typed_as_instance : (part : ModuleInstance) (m : Module Label) (f : Function Label) → part.types ≡ m.types → is_some part.table ≡ is_some (table_among m.imports m.table) → HasItsType m f
+pub typed_as_instance : (part : ModuleInstance) (m : Module Label) (f : Function Label) → is_some part.table ≡ is_some (table_among m.imports m.table) → HasItsType m f
     → Typed (context (index_types m) (instance_of part m f) ((type_named m f.type).result ∷ [])) f.body [] (optional (type_named m f.type).result)
-typed_as_instance part m f et es t =
+typed_as_instance part m f es t =
     let e : context_of m f ≡ context (index_types m) (instance_of part m f) ((type_named m f.type).result ∷ []) =
-    ap₂ (λ (types : List (TypeEntry Label)) (table : Bool). record (context_of m f) { types = map (λ (entry : TypeEntry Label). entry.type) types; table = table }) (sym et) (sym es) in
+    ap (λ (table : Bool). record (context_of m f) { table = table }) (sym es) in
     subst (λ C. Typed C f.body [] (optional (type_named m f.type).result)) e t
 
 -- ---- erased
@@ -62,10 +63,11 @@ named_erased m fit i = by_entry (slice_get m.types i) refl
         named (erase_module m) (base_of m.types i) None (ap (slice_get (erase_entries m.types)) own ∙ past_erased m.types i e)
         ∙ ap erase_function_type (sym (named m i None e))
 
-pub instance_erased : (part : ModuleInstance) (m : Module Label) (f : Function Label) → part.types ≡ m.types → VariantsFit m.types
+pub instance_erased : (part : ModuleInstance) (m : Module Label) (f : Function Label) → VariantsFit m.types
     → erase_instance (instance_of part m f) ≡ instance_of (erase_part part) (erase_module m) (erase_function m.types f)
-instance_erased part m f et fit =
-    ap₂ (λ (type : FunctionType Label) (types : List (TypeEntry Label)). record { part = erase_part part; type = type; locals = map erase_value_type f.locals; body = erase_code types f.body }) (sym (named_erased m fit f.type)) et
+instance_erased part m f fit =
+    ap (λ (type : FunctionType Label). record { part = record (erase_part part) { types = erase_entries m.types; profile = m.profile }; type = type; locals = map erase_value_type f.locals; body = erase_code m.types f.body })
+    (sym (named_erased m fit f.type))
 
 -- ---- the erased module names the erased types
 
@@ -75,7 +77,7 @@ with_function_erased entries (ImportedTable limits) xs ys e = e
 with_function_erased entries (ImportedMemory type) xs ys e = e
 with_function_erased entries (ImportedGlobal type) xs ys e = e
 
-imported_functions_erased : (entries : List (TypeEntry Label)) (imports : List (Import Label)) → imported_functions (map (erase_import entries) imports) ≡ map (base_of entries) (imported_functions imports)
+pub imported_functions_erased : (entries : List (TypeEntry Label)) (imports : List (Import Label)) → imported_functions (map (erase_import entries) imports) ≡ map (base_of entries) (imported_functions imports)
 imported_functions_erased entries [] = refl
 imported_functions_erased entries (i ∷ others) = with_function_erased entries i.kind _ _ (imported_functions_erased entries others)
 
@@ -83,7 +85,7 @@ defined_functions_erased : (entries : List (TypeEntry Label)) (fs : List (Functi
 defined_functions_erased entries [] = refl
 defined_functions_erased entries (f ∷ fs) = ap (λ l. base_of entries f.type ∷ l) (defined_functions_erased entries fs)
 
-function_entries_erased : (m : Module Label) → function_entries (erase_module m) ≡ map (base_of m.types) (function_entries m)
+pub function_entries_erased : (m : Module Label) → function_entries (erase_module m) ≡ map (base_of m.types) (function_entries m)
 function_entries_erased m =
     ap₂ (λ (xs ys : List ℕ). xs ++ ys) (imported_functions_erased m.types m.imports) (defined_functions_erased m.types m.functions)
     ∙ sym (map-append (base_of m.types) (imported_functions m.imports) (map (λ (f : Function Label). f.type) m.functions))
@@ -94,7 +96,7 @@ with_global_erased entries (ImportedFunction type) xs ys e = e
 with_global_erased entries (ImportedTable limits) xs ys e = e
 with_global_erased entries (ImportedMemory type) xs ys e = e
 
-imported_globals_erased : (entries : List (TypeEntry Label)) (imports : List (Import Label)) → imported_globals (map (erase_import entries) imports) ≡ map erase_variable_type (imported_globals imports)
+pub imported_globals_erased : (entries : List (TypeEntry Label)) (imports : List (Import Label)) → imported_globals (map (erase_import entries) imports) ≡ map erase_variable_type (imported_globals imports)
 imported_globals_erased entries [] = refl
 imported_globals_erased entries (i ∷ others) = with_global_erased entries i.kind _ _ (imported_globals_erased entries others)
 
@@ -102,7 +104,7 @@ defined_globals_erased : (gs : List (Global Label)) → map (λ (g : Global Labe
 defined_globals_erased [] = refl
 defined_globals_erased (g ∷ gs) = ap (λ l. erase_variable_type g.type ∷ l) (defined_globals_erased gs)
 
-global_types_erased : (m : Module Label) → global_types (erase_module m) ≡ map erase_variable_type (global_types m)
+pub global_types_erased : (m : Module Label) → global_types (erase_module m) ≡ map erase_variable_type (global_types m)
 global_types_erased m =
     ap₂ (λ (xs ys : List (VariableType Label)). xs ++ ys) (imported_globals_erased m.types m.imports) (defined_globals_erased m.globals)
     ∙ sym (map-append erase_variable_type (imported_globals m.imports) (map (λ (g : Global Label). g.type) m.globals))
@@ -113,7 +115,7 @@ or_memory_erased entries (ImportedFunction type) x y e = e
 or_memory_erased entries (ImportedTable limits) x y e = e
 or_memory_erased entries (ImportedGlobal type) x y e = e
 
-memory_erased : (entries : List (TypeEntry Label)) (imports : List (Import Label)) (defined : Option (MemoryType Label)) → memory_among (map (erase_import entries) imports) (option_map erase_memory_type defined) ≡ option_map erase_memory_type (memory_among imports defined)
+pub memory_erased : (entries : List (TypeEntry Label)) (imports : List (Import Label)) (defined : Option (MemoryType Label)) → memory_among (map (erase_import entries) imports) (option_map erase_memory_type defined) ≡ option_map erase_memory_type (memory_among imports defined)
 memory_erased entries [] defined = refl
 memory_erased entries (i ∷ others) defined = or_memory_erased entries i.kind _ _ (memory_erased entries others defined)
 
@@ -123,12 +125,12 @@ or_table_erased entries (ImportedFunction type) x y e = e
 or_table_erased entries (ImportedMemory type) x y e = e
 or_table_erased entries (ImportedGlobal type) x y e = e
 
-table_erased : (entries : List (TypeEntry Label)) (imports : List (Import Label)) (defined : Option Limits) → table_among (map (erase_import entries) imports) defined ≡ table_among imports defined
+pub table_erased : (entries : List (TypeEntry Label)) (imports : List (Import Label)) (defined : Option Limits) → table_among (map (erase_import entries) imports) defined ≡ table_among imports defined
 table_erased entries [] defined = refl
 table_erased entries (i ∷ others) defined = or_table_erased entries i.kind _ _ (table_erased entries others defined)
 
 -- an element of a mapped list
-map_gets : {A B : Type 0} (f : A → B) (xs : List A) (i : ℕ) (x : A) → slice_get xs i ≡ Some x → slice_get (map f xs) i ≡ Some (f x)
+pub map_gets : {A B : Type 0} (f : A → B) (xs : List A) (i : ℕ) (x : A) → slice_get xs i ≡ Some x → slice_get (map f xs) i ≡ Some (f x)
 map_gets f xs i x e = slice_get-map f xs i ∙ ap (option_map f) e
 
 tag_of : (o : Option (MemoryType Label)) (l : Label) → option_map (λ (t : MemoryType Label). t.tag) o ≡ Some l → option_map (λ (t : MemoryType Label). t.tag) (option_map erase_memory_type o) ≡ Some Public

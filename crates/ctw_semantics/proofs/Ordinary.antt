@@ -5,7 +5,10 @@ use Rattle.ctw_ops.specs.declared.types.Label.TheVariants.{Public}
 use Rattle.ctw_ops.specs.declared.types.Width.TheVariants.{W32}
 use Rattle.ctw_ops.specs.Types.{ValueType, FunctionType, value_type}
 use Rattle.ctw_ops.specs.Equal.{same_label, same_type, same_function_type}
-use Rattle.ctw_ops.specs.Numeric.{num_sig_of, is_timed}
+use Rattle.ctw_ops.specs.declared.numeric.NumSig.{NumSig}
+use Rattle.ctw_ops.specs.declared.numeric.Profile.{Profile}
+use Rattle.ctw_ops.specs.Numeric.{num_sig_of, leaks}
+use Rattle.ctw_num.specs.Values.{value1, value2}
 use Rattle.ctw_ops.specs.Typing.{upon}
 use Rattle.ctw_ops.specs.Code.{Leaf, Unreachable, Nop, Br, BrIf, BrTable, Return, Call, CallIndirect, Drop, Select, LocalGet, LocalSet, LocalTee, GlobalGet, GlobalSet, Load, Store, MemorySize, MemoryGrow, Const, Numeric, Classify, Declassify, Code, Stop, Then, Block, Loop, If, IfElse}
 use Rattle.ctw_script.specs.declared.event.Event.{Event}
@@ -68,11 +71,12 @@ module _ (P : Reduced → Type 0) (quiets : (x : Answer) → P (quiet x)) (notes
   showing_holds false l x y answer = quiets answer
   showing_holds true l x y answer = provided_holds (same_label l Public) _ (notes _ _)
 
-  numeric_holds : (s : Storage) (h : Here) (rest : Code Label) (op : ℕ) (l : Label) (arity : ℕ) (vs : List Value) → P (numeric s h rest op l arity vs)
-  numeric_holds s h rest op l zero vs = quiets Stuck
-  numeric_holds s h rest op l (suc zero) vs = pop_holds (value_type (num_sig_of op).operand l) vs _ (λ n below. quiets _)
-  numeric_holds s h rest op l (suc (suc zero)) vs = pop_holds (value_type (num_sig_of op).operand l) vs _ (λ y below. pop_holds (value_type (num_sig_of op).operand l) below _ (λ x below'. showing_holds (is_timed op) l x y _))
-  numeric_holds s h rest op l (suc (suc (suc more))) vs = quiets Stuck
+  numeric_holds : (profile : Profile) (s : Storage) (h : Here) (rest : Code Label) (op : ℕ) (l : Label) (sig : NumSig) (arity : ℕ) (vs : List Value) → P (numeric profile s h rest op l sig arity vs)
+  numeric_holds profile s h rest op l sig zero vs = quiets Stuck
+  numeric_holds profile s h rest op l sig (suc zero) vs = pop_holds (value_type sig.operand l) vs _ (λ a below. given_holds (value1 op a) _ (λ n. quiets _))
+  numeric_holds profile s h rest op l sig (suc (suc zero)) vs =
+      pop_holds (value_type sig.operand l) vs _ (λ b below. pop_holds (value_type sig.operand l) below _ (λ a below'. given_holds (value2 op a b) _ (λ r. showing_holds (leaks op profile) l a b _)))
+  numeric_holds profile s h rest op l sig (suc (suc (suc more))) vs = quiets Stuck
 
   module _ (fns : Functions) (fn : FunctionInstance) (s : Storage) (h : Here) (rest : Code Label) where
     leaf_holds : (i : Leaf Label) (vs : List Value) → free (Then i rest) ≡ 0 → P (leaf fns fn s h rest i vs)
@@ -91,12 +95,12 @@ module _ (P : Reduced → Type 0) (quiets : (x : Answer) → P (quiet x)) (notes
     leaf_holds (LocalTee x) vs z = given_holds (slice_get h.locals x) _ (λ v. pop_holds v.type vs _ (λ n below. quiets _))
     leaf_holds (GlobalGet x) vs z = given_holds (slice_get fn.part.globals x) _ (λ i. given_holds (slice_get s.globals i) _ (λ g. quiets _))
     leaf_holds (GlobalSet x) vs z = given_holds (slice_get fn.part.globals x) _ (λ i. given_holds (slice_get s.globals i) _ (λ g. provided_holds g.mutable _ (pop_holds g.value.type vs _ (λ n below. quiets _))))
-    leaf_holds (Load w l n signed align offset) vs z = memory_holds fn s _ (λ i m. provided_holds (same_label l m.label) _ (pop_holds i32 vs _ (λ at below. notes _ _)))
-    leaf_holds (Store w l n align offset) vs z = memory_holds fn s _ (λ i m. provided_holds (same_label l m.label) _ (pop_holds (value_type w l) vs _ (λ x below. pop_holds i32 below _ (λ at below'. notes _ _))))
+    leaf_holds (Load w l n signed align offset) vs z = memory_holds fn s _ (λ i m. provided_holds (same_label l m.type.tag) _ (pop_holds i32 vs _ (λ at below. notes _ _)))
+    leaf_holds (Store w l n align offset) vs z = memory_holds fn s _ (λ i m. provided_holds (same_label l m.type.tag) _ (pop_holds (value_type w l) vs _ (λ x below. pop_holds i32 below _ (λ at below'. notes _ _))))
     leaf_holds MemorySize vs z = memory_holds fn s _ (λ i m. quiets _)
     leaf_holds MemoryGrow vs z = memory_holds fn s _ (λ i m. pop_holds i32 vs _ (λ n below. notes _ _))
     leaf_holds (Const w l n) vs z = quiets _
-    leaf_holds (Numeric op l) vs z = numeric_holds s h rest op l (num_sig_of op).arity vs
+    leaf_holds (Numeric op l) vs z = given_holds (num_sig_of op) _ (λ sig. numeric_holds fn.part.profile s h rest op l sig sig.arity vs)
     leaf_holds (Classify w) vs z = cc
     leaf_holds (Declassify w) vs z = cc
 

@@ -1,12 +1,23 @@
 -- Labels that stand around a place of a body go on to do so.
-use Rattle.std.proofs.Common.{◌≡◌, ℕ, zero, suc, List, [], ◌∷◌, ◌++◌, Option, Some, Contains, subst, ⊎_elim, arith}
+use Rattle.std.proofs.Common.{◌≡◌, ℕ, zero, suc, List, [], ◌∷◌, ◌++◌, Option, Some, map, length, option_map, Contains, refl, sym, ap, ◌∙◌, subst, ⊎_elim, inl, inr, arith}
 use Rattle.std.proofs.lemmas.List.Elements.{Contains-append_left, Contains-append_right}
 use Rattle.ctw_ops.specs.IndirectCalls.{indirect_calls}
 use Rattle.ctw_ops.specs.declared.types.Label.{Label}
 use Rattle.ctw_ops.specs.Types.{ValueType}
 use Rattle.ctw_ops.specs.Code.{Leaf, CallIndirect, Code, Stop, Then, Block, Loop, If, IfElse}
+use Rattle.ctw_ops.specs.TagMaps.{in_front_of, type_to, code_to}
+use Rattle.ctw_semantics.specs.Values.{Value}
 use Rattle.ctw_semantics.specs.Activations.{Open}
 use Rattle.ctw_semantics.specs.Places.{behind_first, behind, Opens, StandOutside, StandIn}
+
+-- behind the first instruction and then n others is behind n + 1
+pub behind_next : (n : ℕ) (c : Code Label) → behind (suc n) c ≡ behind n (behind_first c)
+behind_next zero c = refl
+behind_next (suc n) c = ap behind_first (behind_next n c)
+
+pub behind_twice : (j k : ℕ) (c : Code Label) → (i : ℕ) × (behind i c ≡ behind j (behind k c))
+behind_twice zero k c = (k, refl)
+behind_twice (suc j) k c = let i = behind_twice j k c in (suc i.0, ap behind_first i.1)
 
 -- what follows an instruction that opens a label stands behind it
 pub opens_rest : (c : Code Label) (t : Option (ValueType Label)) (again : Option (Code Label)) (inside rest : Code Label) → Opens c t again inside rest → rest ≡ behind_first c
@@ -68,3 +79,65 @@ calls_outside body t again inside (o ∷ outer) s y c =
 pub calls_here : (body : Code Label) (o : Open) (outer : List Open) → StandIn body (o ∷ outer) → (y : ℕ) → Contains (indirect_calls o.code) y → Contains (indirect_calls body) y
 calls_here body o outer s y c =
     calls_outside body o.result o.again s.0 outer s.3 y (calls_behind s.1 s.0 y (subst (λ (i : Code Label). Contains (indirect_calls i) y) s.2 c))
+
+-- ---- code under an action on leaves: what stands where
+
+module _ (f : Label → Label) (act : Leaf Label → List (Leaf Label)) where
+  behind_leaves : (leaves : List (Leaf Label)) (rest : Code Label) → behind (length leaves) (in_front_of leaves rest) ≡ rest
+  behind_leaves [] rest = refl
+  behind_leaves (leaf ∷ leaves) rest = behind_next (length leaves) (Then leaf (in_front_of leaves rest)) ∙ behind_leaves leaves rest
+
+  behind_first_to : (c : Code Label) → (k : ℕ) × (code_to f act (behind_first c) ≡ behind k (code_to f act c))
+  behind_first_to Stop = (0, refl)
+  behind_first_to (Then leaf rest) = (length (act leaf), sym (behind_leaves (act leaf) (code_to f act rest)))
+  behind_first_to (Block t body rest) = (1, refl)
+  behind_first_to (Loop t body rest) = (1, refl)
+  behind_first_to (If t arm rest) = (1, refl)
+  behind_first_to (IfElse t arm other rest) = (1, refl)
+
+  -- what is left behind some instructions becomes what is left behind some of the new ones
+  pub behind_to : (n : ℕ) (c : Code Label) → (k : ℕ) × (code_to f act (behind n c) ≡ behind k (code_to f act c))
+  behind_to zero c = (0, refl)
+  behind_to (suc n) c =
+      let before = behind_to n c in
+      let next = behind_first_to (behind n c) in
+      let both = behind_twice next.0 before.0 (code_to f act c) in
+      (both.0, next.1 ∙ ap (behind next.0) before.1 ∙ sym both.1)
+
+  abbrev type_in : Option (ValueType Label) → Option (ValueType Label)
+  type_in t = option_map (type_to f) t
+
+  abbrev loop_in : Option (Code Label) → Option (Code Label)
+  loop_in again = option_map (code_to f act) again
+
+  opens_to : (c : Code Label) (t : Option (ValueType Label)) (again : Option (Code Label)) (inside rest : Code Label) → Opens c t again inside rest
+      → Opens (code_to f act c) (type_in t) (loop_in again) (code_to f act inside) (code_to f act rest)
+  opens_to Stop t again inside rest o = absurd o
+  opens_to (Then leaf r) t again inside rest o = absurd o
+  opens_to (Block u body r) t again inside rest o = (ap type_in o.0, ap loop_in o.1, ap (code_to f act) o.2, ap (code_to f act) o.3)
+  opens_to (Loop u body r) t again inside rest o = (ap type_in o.0, ap loop_in o.1, ap (code_to f act) o.2, ap (code_to f act) o.3)
+  opens_to (If u arm r) t again inside rest o = (ap type_in o.0, ap loop_in o.1, ⊎_elim (λ e. inl (ap (code_to f act) e)) (λ e. inr (ap (code_to f act) e)) o.2, ap (code_to f act) o.3)
+  opens_to (IfElse u arm other r) t again inside rest o = (ap type_in o.0, ap loop_in o.1, ⊎_elim (λ e. inl (ap (code_to f act) e)) (λ e. inr (ap (code_to f act) e)) o.2, ap (code_to f act) o.3)
+
+  -- an open label of the new code, with values that are made from its own
+  module _ (values_to : List Value → List Value) where
+    abbrev pub open_to : Open → Open
+    open_to o = record { values = values_to o.values; code = code_to f act o.code; result = type_in o.result; again = loop_in o.again }
+
+    stand_outside_to : (body : Code Label) (t : Option (ValueType Label)) (again : Option (Code Label)) (inside : Code Label) (outer : List Open) → StandOutside body t again inside outer
+        → StandOutside (code_to f act body) (type_in t) (loop_in again) (code_to f act inside) (map open_to outer)
+    stand_outside_to body t again inside [] s = ap (code_to f act) s
+    stand_outside_to body t again inside (o ∷ outer) s =
+        let k = behind_to s.1 s.0 in (
+          code_to f act s.0,
+          k.0,
+          subst (λ c. Opens c (type_in t) (loop_in again) (code_to f act inside) (code_to f act o.code)) k.1 (opens_to (behind s.1 s.0) t again inside o.code s.2),
+          stand_outside_to body o.result o.again s.0 outer s.3,
+        )
+
+    -- labels around one place of a body become labels around one place of the new body
+    pub stand_to : (body : Code Label) (labels : List Open) → StandIn body labels → StandIn (code_to f act body) (map open_to labels)
+    stand_to body [] s = absurd s
+    stand_to body (o ∷ outer) s =
+        let k = behind_to s.1 s.0 in
+        (code_to f act s.0, k.0, ap (code_to f act) s.2 ∙ k.1, stand_outside_to body o.result o.again s.0 outer s.3)

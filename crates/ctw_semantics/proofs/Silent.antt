@@ -16,7 +16,7 @@ use Rattle.ctw_semantics.specs.Answers.{Answer, Goes, Ended, Trapped, Stuck, Red
 use Rattle.ctw_semantics.specs.Machine.{Here, target_type, next, here, in_frame, red}
 use Rattle.ctw_semantics.specs.Steps.{free_next, Stepped, then_step, reductions, step, Turned, then_turn, turn}
 use Rattle.ctw_semantics.specs.Sound.{Shape, SoundStorage, IndexTypes, context, SoundSet, LabelsTyped, target_types, SoundCall, SoundAnswer, AllUntrusted}
-use Rattle.ctw_semantics.proofs.Lists.{all_get}
+use Rattle.ctw_ops.proofs.Lists.{all_get}
 use Rattle.ctw_semantics.proofs.Ordinary.{given_holds, pop_holds, next_holds}
 use Rattle.ctw_semantics.proofs.Sound.{red_sound}
 use Rattle.ctw_semantics.proofs.SoundSteps.{step_sound}

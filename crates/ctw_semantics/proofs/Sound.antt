@@ -1,33 +1,35 @@
 -- A reduction of a sound call over a sound store is never stuck, and both stay sound.
-use Rattle.std.proofs.Common.{◌≡◌, ℕ, zero, suc, ◌+◌, ◌^◌, ◌<◌, Bool, true, false, List, [], ◌∷◌, ◌++◌, map, length, replicate, Option, Some, None, is_some, slice_get, All, Result, Ok, Err, IfOk, inl, inr, ⊎_elim, refl, sym, ap, ◌∙◌, subst, arith, ◌==◌, nat_lt, nat_le, cond, leb-true, ltb-true, length-append}
+use Rattle.std.proofs.Common.{◌≡◌, ℕ, zero, suc, ◌+◌, ◌<◌, ◌⊎◌, Bool, true, false, List, [], ◌∷◌, ◌++◌, map, length, replicate, Option, Some, None, is_some, slice_get, All, Result, Ok, Err, IfOk, inl, inr, ⊎_elim, refl, sym, ap, ◌∙◌, subst, arith, ◌==◌, nat_lt, nat_le, cond, leb-true, ltb-true, length-append}
 use Rattle.ctw_ops.specs.declared.types.Label.{Label}
 use Rattle.ctw_ops.specs.declared.types.Label.TheVariants.{Public, Secret}
 use Rattle.ctw_ops.specs.declared.types.Width.TheVariants.{W32}
-use Rattle.ctw_ops.specs.Types.{ValueType, FunctionType, VariableType, value_type}
+use Rattle.ctw_ops.specs.Types.{ValueType, FunctionType, VariableType, MemoryType, FitsWidth, value_type}
 use Rattle.ctw_ops.specs.Equal.{same_label, same_function_type}
-use Rattle.ctw_ops.specs.Numeric.{num_sig_of, is_timed}
+use Rattle.ctw_ops.specs.declared.numeric.NumSig.{NumSig}
+use Rattle.ctw_ops.specs.Numeric.{num_sig_of, leaks}
 use Rattle.ctw_ops.specs.Typing.{Context, Row, Typed, optional, upon}
 use Rattle.ctw_ops.specs.Code.{Leaf, Unreachable, Nop, Br, BrIf, BrTable, Return, Call, CallIndirect, Drop, Select, LocalGet, LocalSet, LocalTee, GlobalGet, GlobalSet, Load, Store, MemorySize, MemoryGrow, Const, Numeric, Classify, Declassify, Code, Stop, Then, Block, Loop, If, IfElse}
 use Rattle.ctw_num.specs.declared.trap.NumTrap.{NumTrap}
-use Rattle.ctw_num.specs.Integers.{bit_width, wrap}
-use Rattle.ctw_num.specs.Values.{value1, value2}
+use Rattle.ctw_num.specs.Values.{value1, value2, has_arity, takes}
+use Rattle.ctw_num.proofs.Values.{value1_some, value2_some}
+use Rattle.std.proofs.lemmas.Bool.Decides.{nat_tests}
 use Rattle.ctw_num.proofs.Sizes.{value1_below, value2_below}
 use Rattle.ctw_script.specs.declared.trap.TrapCode.TheVariants.{Exhausted}
 use Rattle.ctw_script.specs.declared.event.Event.TheVariants as Events
 use Rattle.ctw_semantics.specs.Values.{Value, value, i32, zero_of}
 use Rattle.ctw_semantics.specs.Stores.{Memory, Table, Storage, number_at, pages, may_grow}
 use Rattle.ctw_semantics.specs.Instances.{FunctionInstance, Functions}
-use Rattle.ctw_semantics.specs.Activations.{Open, Frame, Activation, weight, most_weight}
+use Rattle.ctw_ops.specs.Limits.{most_weight}
+use Rattle.ctw_semantics.specs.Activations.{Open, Frame, Activation, weight}
 use Rattle.ctw_semantics.specs.Answers.{Answer, Goes, Ended, Trapped, Stuck, Reduced, quiet, noting, carry}
 use Rattle.ctw_semantics.specs.Machine.{Here, innermost, with_labels, put, with_local, enter, receive, resume, finish, leave, rerun, target_type, arrive, label_at, branch, pass, table_place, invoke, call_entry, memory_of, outcome, showing, numeric, leaf, choose, next, within_weight, here, in_frame, red}
 use Rattle.ctw_semantics.specs.Places.{behind_first, behind, Opens, StandOutside, StandIn}
-use Rattle.ctw_semantics.specs.Sound.{MemoryShape, Shape, MemoryFits, SoundStorage, IndexTypes, context, IndexesLead, FunctionTyped, SoundSet, HasTypes, target_types, AgainTyped, OuterTyped, LabelsTyped, CallersTyped, ActivationTyped, SoundCall, SoundAnswer}
-use Rattle.ctw_semantics.proofs.Tests.{same_label_when, same_function_type_is}
-use Rattle.ctw_semantics.proofs.Lists.{all_get, contains_get, map_get, in_range, upon_append, upon_below, upon_back}
-use Rattle.ctw_semantics.proofs.Arities.{one_or_two}
+use Rattle.ctw_semantics.specs.Sound.{Shape, MemoryFits, SoundStorage, IndexTypes, context, IndexesLead, FunctionTyped, SoundSet, HasTypes, target_types, AgainTyped, OuterTyped, LabelsTyped, CallersTyped, ActivationTyped, SoundCall, SoundAnswer}
+use Rattle.ctw_ops.proofs.EqualLaws.{same_label_when, same_function_type_is}
+use Rattle.ctw_ops.proofs.Lists.{all_get, contains_get, map_get, in_range, upon_append, upon_below, upon_back}
 use Rattle.ctw_semantics.proofs.Typed.{types_get, types_set, types_append, types_upon, zeros_typed, provided_when, given_when, cond_when, pop_when, pop_any_when, carry_when, pops_when}
 use Rattle.ctw_semantics.proofs.Placed.{opens_rest, opens_loop}
-use Rattle.ctw_semantics.proofs.SoundStores.{wrap_fits, number_at_fits, memory_at, global_at, number_kept, written_kept, grown_kept}
+use Rattle.ctw_semantics.proofs.SoundStores.{pages_below, number_at_fits, memory_at, global_at, number_kept, written_kept, grown_kept}
 
 place_in_table : (n : ℕ) (targets : List ℕ) (otherwise : ℕ) → table_place n targets < length (targets ++ otherwise ∷ [])
 place_in_table n targets otherwise = go (nat_lt n (length targets)) refl
@@ -56,6 +58,20 @@ some_is (Some x) e = (x, refl)
 typed_either : (b : Bool) (C : Context Label) (c d : Code Label) (from to : List (ValueType Label)) → Typed C c from to → Typed C d from to → Typed C (cond b c d) from to
 typed_either true C c d from to h i = h
 typed_either false C c d from to h i = i
+
+-- a numeric operation has one operand or two
+one_or_two : (op : ℕ) (sig : NumSig) (n : ℕ) → num_sig_of op ≡ Some sig → sig.arity ≡ n → (n ≡ 1) ⊎ (n ≡ 2)
+unfolding num_sig_of
+one_or_two op sig n es ea = grind (arith, nat_tests)
+
+not_none : (n : ℕ) → n ≡ 0 → (n ≡ 1) ⊎ (n ≡ 2) → ⊥
+not_none n z h = ⊎_elim (λ e. omega (arith, e, z)) (λ e. omega (arith, e, z)) h
+
+not_three : (more : ℕ) → (suc (suc (suc more)) ≡ 1) ⊎ (suc (suc (suc more)) ≡ 2) → ⊥
+not_three more h = ⊎_elim (λ e. omega (arith, e)) (λ e. omega (arith, e)) h
+
+takes_so : (n op : ℕ) (sig : NumSig) → num_sig_of op ≡ Some sig → sig.arity ≡ n → takes n op ≡ true
+takes_so n op sig es ea = let same : (sig.arity == n) ≡ true = grind (arith, nat_tests, ea) in ap (has_arity n) es ∙ same
 
 module _ (fns : Functions) (shape : Shape) (last : Option (ValueType Label)) (set : SoundSet fns shape) where
   -- sound but for its weight
@@ -226,7 +242,7 @@ module _ (fns : Functions) (shape : Shape) (last : Option (ValueType Label)) (se
         invoke_fair (noting (Events.Indirect i (Some g))) (λ x f. f) g c.0 kept vs c.1 (em ∙ ap (λ (t : FunctionType Label). upon (optional t.result) kept) (sym e)) (subst (λ (t : FunctionType Label). HasTypes (upon t.params kept) vs) (sym e) v))
         (λ q. tt))
 
-    outcome_fair : (t : ValueType Label) (below : List Value) (x : Result ℕ NumTrap) → IfOk x (λ n. n < 2 ^ bit_width t.width) → ((n : ℕ) → n < 2 ^ bit_width t.width → HasTypes mid (value t n ∷ below)) → Fair (outcome s h rest t below x)
+    outcome_fair : (t : ValueType Label) (below : List Value) (x : Result ℕ NumTrap) → IfOk x (FitsWidth t.width) → ((n : ℕ) → FitsWidth t.width n → HasTypes mid (value t n ∷ below)) → Fair (outcome s h rest t below x)
     outcome_fair t below (Ok n) f v = goes_fair _ (v n f)
     outcome_fair t below (Err trap) f v = tt
 
@@ -234,25 +250,29 @@ module _ (fns : Functions) (shape : Shape) (last : Option (ValueType Label)) (se
     showing_fair false l x y answer p f = f
     showing_fair true l x y answer p f = provided_when FairR (same_label l Public) _ (same_label_when l Public (p refl)) f
 
-    numeric_fair : (op : ℕ) (l : Label) (arity : ℕ) → (num_sig_of op).arity ≡ arity → (kept from : List (ValueType Label)) (vs : List Value) → (is_timed op ≡ true → l ≡ Public) → from ≡ upon (replicate arity (value_type (num_sig_of op).operand l)) kept → mid ≡ value_type (num_sig_of op).result l ∷ kept → HasTypes from vs → FairR (numeric s h rest op l arity vs)
-    numeric_fair op l zero ea kept from vs p q m v = ⊎_elim (λ e. absurd (let z : 0 ≡ 1 = sym ea ∙ e in omega (arith, z))) (λ e. absurd (let z : 0 ≡ 2 = sym ea ∙ e in omega (arith, z))) (one_or_two op)
-    numeric_fair op l (suc zero) ea kept from vs p q m v =
-        pop_when FairR (value_type (num_sig_of op).operand l) kept vs _ (subst (λ ts. HasTypes ts vs) q v) (λ x below fx hb.
-        goes_fair _ (subst (λ ts. HasTypes ts (value (value_type (num_sig_of op).result l) (value1 op x) ∷ below)) (sym m) (refl, value1_below op x ea fx, hb)))
-    numeric_fair op l (suc (suc zero)) ea kept from vs p q m v =
-        let t = value_type (num_sig_of op).operand l in
+    numeric_fair : (op : ℕ) (l : Label) (sig : NumSig) → num_sig_of op ≡ Some sig → (arity : ℕ) → sig.arity ≡ arity → (kept from : List (ValueType Label)) (vs : List Value) → (leaks op fn.part.profile ≡ true → l ≡ Public) → from ≡ upon (replicate arity (value_type sig.operand l)) kept → mid ≡ value_type sig.result l ∷ kept → HasTypes from vs → FairR (numeric fn.part.profile s h rest op l sig arity vs)
+    numeric_fair op l sig es zero ea kept from vs p q m v = absurd (not_none 0 refl (one_or_two op sig 0 es ea))
+    numeric_fair op l sig es (suc zero) ea kept from vs p q m v =
+        pop_when FairR (value_type sig.operand l) kept vs _ (subst (λ ts. HasTypes ts vs) q v) (λ x below fx hb.
+        let r = some_is (value1 op x) (value1_some op x ∙ takes_so 1 op sig es ea) in
+        given_when FairR (value1 op x) r.0 _ r.1
+        (goes_fair _ (subst (λ ts. HasTypes ts (value (value_type sig.result l) r.0 ∷ below)) (sym m) (refl, value1_below op x r.0 sig es fx r.1, hb))))
+    numeric_fair op l sig es (suc (suc zero)) ea kept from vs p q m v =
+        let t = value_type sig.operand l in
         pop_when FairR t (t ∷ kept) vs _ (subst (λ ts. HasTypes ts vs) q v) (λ y below fy hb. pop_when FairR t kept below _ hb (λ x below' fx hb'.
-        showing_fair (is_timed op) l x y _ p (outcome_fair (value_type (num_sig_of op).result l) below' (value2 op x y) (value2_below op x y ea fx)
-        (λ z fz. subst (λ ts. HasTypes ts (value (value_type (num_sig_of op).result l) z ∷ below')) (sym m) (refl, fz, hb')))))
-    numeric_fair op l (suc (suc (suc more))) ea kept from vs p q m v = ⊎_elim (λ e. absurd (let z : 3 + more ≡ 1 = omega (arith, ea, e) in omega (arith, z))) (λ e. absurd (let z : 3 + more ≡ 2 = omega (arith, ea, e) in omega (arith, z))) (one_or_two op)
+        let r = some_is (value2 op x y) (value2_some op x y ∙ takes_so 2 op sig es ea) in
+        given_when FairR (value2 op x y) r.0 _ r.1
+        (showing_fair (leaks op fn.part.profile) l x y _ p (outcome_fair (value_type sig.result l) below' r.0 (value2_below op x y r.0 sig es ea fx r.1)
+        (λ z fz. subst (λ ts. HasTypes ts (value (value_type sig.result l) z ∷ below')) (sym m) (refl, fz, hb'))))))
+    numeric_fair op l sig es (suc (suc (suc more))) ea kept from vs p q m v = absurd (not_three more (one_or_two op sig (suc (suc (suc more))) es ea))
 
-    memory_fair : (l : Label) (go : ℕ → Memory → Reduced) → names.memory ≡ Some l → ((i : ℕ) (m : Memory) → slice_get s.memories i ≡ Some m → m.label ≡ l → MemoryFits m → FairR (go i m)) → FairR (memory_of fn s go)
+    memory_fair : (l : Label) (go : ℕ → Memory → Reduced) → names.memory ≡ Some l → ((i : ℕ) (m : Memory) → slice_get s.memories i ≡ Some m → m.type.tag ≡ l → MemoryFits m → FairR (go i m)) → FairR (memory_of fn s go)
     memory_fair l go e f =
         let i = a.leads.memory l e in
         let m = memory_at shape s ss i.0 i.1 i.3 in
-        given_when FairR fn.part.memory i.0 _ i.2 (given_when FairR (slice_get s.memories i.0) m.0 _ m.1 (f i.0 m.0 m.1 (ap (λ (t : MemoryShape). t.label) m.2 ∙ i.4) m.3))
+        given_when FairR fn.part.memory i.0 _ i.2 (given_when FairR (slice_get s.memories i.0) m.0 _ m.1 (f i.0 m.0 m.1 (ap (λ (t : MemoryType Label). t.tag) m.2 ∙ i.4) m.3))
 
-    abbrev set_local : (x : ℕ) (old : Value) (t : ValueType Label) (k : ℕ) → slice_get (fn.type.params ++ fn.locals) x ≡ Some t → old.type ≡ t → k < 2 ^ bit_width old.type.width → Around names fn (with_local h x (value old.type k))
+    abbrev set_local : (x : ℕ) (old : Value) (t : ValueType Label) (k : ℕ) → slice_get (fn.type.params ++ fn.locals) x ≡ Some t → old.type ≡ t → FitsWidth old.type.width k → Around names fn (with_local h x (value old.type k))
     set_local x old t k e q f = record { found = a.found; leads = a.leads; locals = types_set (fn.type.params ++ fn.locals) h.locals x t (value old.type k) a.locals e q f; outside = a.outside; callers = a.callers }
 
     leaf_fair : (i : Leaf Label) (from : List (ValueType Label)) (vs : List Value) → Row (context names fn (types_here h)) i from mid → HasTypes from vs → FairR (leaf fns fn s h rest i vs)
@@ -336,33 +356,34 @@ module _ (fns : Functions) (shape : Shape) (last : Option (ValueType Label)) (se
         (provided_when FairR g.0.mutable _ em (pop_when FairR g.0.value.type kept vs _ (subst (λ ts. HasTypes ts vs) (r.3.1 ∙ ap (λ t. t ∷ kept) (sym et)) v) (λ k below fb hb.
         (number_kept shape s ss i.0 g.0 k g.1 fb, put_typed names fn h a n rest at_rest mid below (subst (λ ts. HasTypes ts below) (sym r.3.2) hb) tr)))))
     leaf_fair (Load w l count signed align offset) from vs r v =
-        let kept = r.2.0 in
-        memory_fair l _ r.0 (λ i m e el fits.
-        provided_when FairR (same_label l m.label) _ (same_label_when l m.label (sym el)) (pop_when FairR i32 kept vs _ (subst (λ ts. HasTypes ts vs) r.2.1 v) (λ at below fb hb.
-        fair_either (nat_le (at + offset + count) (length m.bytes)) _ _ (λ _. goes_fair _ (subst (λ ts. HasTypes ts (value (value_type w l) (number_at w signed count (at + offset) m.bytes) ∷ below)) (sym r.2.2) (refl, number_at_fits w signed count (at + offset) m.bytes, hb))) tt)))
+        let kept = r.3.0 in
+        memory_fair l _ r.1 (λ i m e el fits.
+        provided_when FairR (same_label l m.type.tag) _ (same_label_when l m.type.tag (sym el)) (pop_when FairR i32 kept vs _ (subst (λ ts. HasTypes ts vs) r.3.1 v) (λ at below fb hb.
+        fair_either (nat_le (at + offset + count) (length m.bytes)) _ _ (λ _. goes_fair _ (subst (λ ts. HasTypes ts (value (value_type w l) (number_at w signed count (at + offset) m.bytes) ∷ below)) (sym r.3.2) (refl, number_at_fits w signed count (at + offset) m.bytes r.0 fits.bytes, hb))) tt)))
     leaf_fair (Store w l count align offset) from vs r v =
-        let kept = r.2.0 in
-        memory_fair l _ r.0 (λ i m e el fits.
-        provided_when FairR (same_label l m.label) _ (same_label_when l m.label (sym el)) (pop_when FairR (value_type w l) (i32 ∷ kept) vs _ (subst (λ ts. HasTypes ts vs) r.2.1 v) (λ x below fx hb.
+        let kept = r.3.0 in
+        memory_fair l _ r.1 (λ i m e el fits.
+        provided_when FairR (same_label l m.type.tag) _ (same_label_when l m.type.tag (sym el)) (pop_when FairR (value_type w l) (i32 ∷ kept) vs _ (subst (λ ts. HasTypes ts vs) r.3.1 v) (λ x below fx hb.
         pop_when FairR i32 kept below _ hb (λ at below' fb hb'.
         fair_either (nat_le (at + offset + count) (length m.bytes)) _ _ (λ le. (
           written_kept shape s ss i m (at + offset) count x e fits (leb-true _ _ le),
-          put_typed names fn h a n rest at_rest mid below' (subst (λ ts. HasTypes ts below') (sym r.2.2) hb') tr,
+          put_typed names fn h a n rest at_rest mid below' (subst (λ ts. HasTypes ts below') (sym r.3.2) hb') tr,
         )) tt))))
     leaf_fair MemorySize from vs r v =
-        memory_fair r.0 _ r.1 (λ i m e el fits. goes_fair _ (subst (λ ts. HasTypes ts (value i32 (pages m) ∷ vs)) (sym r.2.2) (refl, (let f = fits.2 in omega (arith, f)), subst (λ ts. HasTypes ts vs) r.2.1 v)))
+        memory_fair r.0 _ r.1 (λ i m e el fits. goes_fair _ (subst (λ ts. HasTypes ts (value i32 (pages m) ∷ vs)) (sym r.2.2) (refl, pages_below (pages m) fits.most, subst (λ ts. HasTypes ts vs) r.2.1 v)))
     leaf_fair MemoryGrow from vs r v =
         let kept = r.2.0 in
         memory_fair r.0 _ r.1 (λ i m e el fits. pop_when FairR i32 kept vs _ (subst (λ ts. HasTypes ts vs) r.2.1 v) (λ count below fb hb.
         fair_either (may_grow s m count) _ _
         (λ g. (
           grown_kept shape s ss i m count e fits g,
-          put_typed names fn h a n rest at_rest mid (value i32 (pages m) ∷ below) (subst (λ ts. HasTypes ts (value i32 (pages m) ∷ below)) (sym r.2.2) (refl, (let f = fits.2 in omega (arith, f)), hb)) tr,
+          put_typed names fn h a n rest at_rest mid (value i32 (pages m) ∷ below) (subst (λ ts. HasTypes ts (value i32 (pages m) ∷ below)) (sym r.2.2) (refl, pages_below (pages m) fits.most, hb)) tr,
         ))
         (goes_fair _ (subst (λ ts. HasTypes ts (value i32 4294967295 ∷ below)) (sym r.2.2) (refl, omega arith, hb)))))
     leaf_fair (Const w l bits) from vs r v =
-        goes_fair _ (subst (λ ts. HasTypes ts (value (value_type w l) (wrap (bit_width w) bits) ∷ vs)) (sym r.2) (refl, wrap_fits w bits, subst (λ ts. HasTypes ts vs) r.1 v))
-    leaf_fair (Numeric op l) from vs r v = numeric_fair op l (num_sig_of op).arity refl r.1.0 from vs r.0 r.1.1 r.1.2 v
+        goes_fair _ (subst (λ ts. HasTypes ts (value (value_type w l) bits ∷ vs)) (sym r.1.2) (refl, r.0, subst (λ ts. HasTypes ts vs) r.1.1 v))
+    leaf_fair (Numeric op l) from vs r v =
+        given_when FairR (num_sig_of op) r.0 _ r.1 (numeric_fair op l r.0 r.1 r.0.arity refl r.3.0 from vs r.2 r.3.1 r.3.2 v)
     leaf_fair (Classify w) from vs r v =
         pop_when FairR (value_type w Public) r.0 vs _ (subst (λ ts. HasTypes ts vs) r.1 v) (λ x below fb hb.
         goes_fair _ (subst (λ ts. HasTypes ts (value (value_type w Secret) x ∷ below)) (sym r.2) (refl, fb, hb)))

@@ -1,14 +1,13 @@
 -- Operands of the wanted types are there to be taken.
-use Rattle.std.proofs.Common.{◌≡◌, ℕ, zero, suc, ◌<◌, ◌^◌, Bool, true, false, List, [], ◌∷◌, ◌++◌, map, Option, Some, None, slice_get, slice_set, refl, sym, ◌∙◌, subst, cond, pow_pos}
+use Rattle.std.proofs.Common.{◌≡◌, ℕ, zero, suc, Bool, true, false, List, [], ◌∷◌, ◌++◌, map, Option, Some, None, slice_get, slice_set, refl, sym, ◌∙◌, subst, cond, pow_pos}
 use Rattle.ctw_ops.specs.declared.types.Label.{Label}
-use Rattle.ctw_ops.specs.Types.{ValueType}
+use Rattle.ctw_ops.specs.Types.{ValueType, FitsWidth, bit_width}
 use Rattle.ctw_ops.specs.Equal.{same_type}
 use Rattle.ctw_ops.specs.Typing.{optional, upon}
-use Rattle.ctw_num.specs.Integers.{bit_width}
 use Rattle.ctw_semantics.specs.Values.{Value, value, zero_of}
 use Rattle.ctw_semantics.specs.Answers.{Reduced, given, provided, pop, pop_any, pops, carry}
 use Rattle.ctw_semantics.specs.Sound.{ValueFits, HasTypes}
-use Rattle.ctw_semantics.proofs.Tests.{same_type_when}
+use Rattle.ctw_ops.proofs.EqualLaws.{same_type_when}
 
 -- ---- values of types
 
@@ -53,11 +52,11 @@ module _ (P : Reduced → Type 0) where
   cond_when true r q h i = h refl
   cond_when false r q h i = i refl
 
-  pub pop_when : (t : ValueType Label) (ts : List (ValueType Label)) (vs : List Value) (go : ℕ → List Value → Reduced) → HasTypes (t ∷ ts) vs → ((n : ℕ) (below : List Value) → n < 2 ^ bit_width t.width → HasTypes ts below → P (go n below)) → P (pop t vs go)
+  pub pop_when : (t : ValueType Label) (ts : List (ValueType Label)) (vs : List Value) (go : ℕ → List Value → Reduced) → HasTypes (t ∷ ts) vs → ((n : ℕ) (below : List Value) → FitsWidth t.width n → HasTypes ts below → P (go n below)) → P (pop t vs go)
   pop_when t ts [] go h i = absurd h
   pop_when t ts (v ∷ vs) go h i =
       provided_when (same_type t v.type) (go v.number vs) (same_type_when t v.type (sym h.0))
-      (i v.number vs (subst (λ (u : ValueType Label). v.number < 2 ^ bit_width u.width) h.0 h.1) h.2)
+      (i v.number vs (subst (λ (u : ValueType Label). FitsWidth u.width v.number) h.0 h.1) h.2)
 
   pub pop_any_when : (t : ValueType Label) (ts : List (ValueType Label)) (vs : List Value) (go : Value → List Value → Reduced) → HasTypes (t ∷ ts) vs → ((v : Value) (below : List Value) → v.type ≡ t → ValueFits v → HasTypes ts below → P (go v below)) → P (pop_any vs go)
   pop_any_when t ts [] go h i = absurd h

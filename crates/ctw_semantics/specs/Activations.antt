@@ -5,8 +5,8 @@ use Rattle.ctw_ops.specs.Types.{ValueType}
 use Rattle.ctw_ops.specs.Code.{Code}
 use Rattle.ctw_semantics.specs.Values.{Value}
 
--- An open block, loop, arm or body: its operand values, the last one first, the instructions still to run, its result's type,
--- and for a loop the instructions to run again.
+-- An open block, loop, arm or body: its operand values, the last one first, the instructions still to run, its
+-- result's type, and for a loop the instructions to run again.
 pub record Open : Type 0 where
   pub values : List Value
   pub code : Code Label
@@ -33,7 +33,3 @@ labels_weight (o ∷ os) = length o.values + 1 + labels_weight os
 abbrev pub weight : Activation → ℕ
 weight [] = 0
 weight (f ∷ fs) = 1 + length f.locals + labels_weight f.labels + weight fs
-
--- what an activation may weigh
-unfoldable pub most_weight : ℕ
-most_weight = 1000000

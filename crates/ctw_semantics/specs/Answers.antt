@@ -9,15 +9,16 @@ use Rattle.ctw_semantics.specs.Values.{Value, value}
 use Rattle.ctw_semantics.specs.Stores.{Storage}
 use Rattle.ctw_semantics.specs.Activations.{Activation}
 
--- where a reduction leads: to another store and activation, to the end with perhaps a value, or to a trap. Stuck where a value
--- is missing or has another type than the instruction wants, or where an index names nothing.
+-- where a reduction leads: to another store and activation, to the end with perhaps a value, or to a trap. Stuck
+-- where a value is missing or has another type than the instruction wants, or where an index names nothing.
 pub data Answer : Type 0 where
   Goes : (storage : Storage) (activation : Activation) → Answer
   Ended : (value : Option Value) → Answer
   Trapped : (code : TrapCode) → Answer
   Stuck : Answer
 
--- an answer with its cost of 0 or 1, perhaps what an onlooker sees of it, and perhaps the number that a declassify releases
+-- an answer with its cost of 0 or 1, perhaps what an onlooker sees of it, and perhaps the number that a declassify
+-- releases
 pub record Reduced : Type 0 where
   pub answer : Answer
   pub cost : ℕ

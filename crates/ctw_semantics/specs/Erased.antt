@@ -1,10 +1,10 @@
--- The erased state: every label public, no trust, no variants, and no classify and declassify. Nothing is released in it.
+-- The erased state: every label public, no trust, no variants, and no classify and declassify. Nothing is released in
+-- it.
 use Rattle.std.specs.Prelude.{ℕ, List, [], map, None, option_map, unwrap_or, slice_get}
 use Rattle.ctw_ops.specs.declared.types.Label.{Label}
-use Rattle.ctw_ops.specs.declared.types.Label.TheVariants.{Public}
 use Rattle.ctw_ops.specs.Types.{erase_value_type, erase_function_type}
 use Rattle.ctw_ops.specs.Tree.{TypeEntry}
-use Rattle.ctw_ops.specs.Erasure.{erase_entries, erase_code}
+use Rattle.ctw_ops.specs.Erasure.{erase_entries, erase_code, erase_memory_type}
 use Rattle.ctw_semantics.specs.Values.{Value, value}
 use Rattle.ctw_semantics.specs.Stores.{Memory, Global, Storage}
 use Rattle.ctw_semantics.specs.Instances.{ModuleInstance, FunctionInstance, Functions}
@@ -35,13 +35,17 @@ abbrev pub erase_value : Value → Value
 erase_value v = value (erase_value_type v.type) v.number
 
 abbrev pub erase_memory : Memory → Memory
-erase_memory m = record m { label = Public }
+erase_memory m = record m { type = erase_memory_type m.type }
 
 abbrev pub erase_global : Global → Global
 erase_global g = record g { value = erase_value g.value }
 
 abbrev pub erase_storage : Storage → Storage
-erase_storage s = record { memories = map erase_memory s.memories; globals = map erase_global s.globals; tables = s.tables }
+erase_storage s = record {
+  memories = map erase_memory s.memories;
+  globals = map erase_global s.globals;
+  tables = s.tables;
+}
 
 -- ---- activations
 
@@ -58,7 +62,11 @@ erase_open entries o = record {
 }
 
 abbrev pub erase_frame : Functions → Frame → Frame
-erase_frame fns f = record { func = f.func; locals = map erase_value f.locals; labels = map (erase_open (entries_of fns f.func)) f.labels }
+erase_frame fns f = record {
+  func = f.func;
+  locals = map erase_value f.locals;
+  labels = map (erase_open (entries_of fns f.func)) f.labels;
+}
 
 abbrev pub erase_activation : Functions → Activation → Activation
 erase_activation fns a = map (erase_frame fns) a

@@ -1,12 +1,15 @@
--- What runs, as plain data: functions with the indexes of their modules resolved (W3C WebAssembly Core 1.0, sections 4.2.5 and 4.2.6).
+-- What runs, as plain data: functions with the indexes of their modules resolved (W3C WebAssembly Core 1.0, sections
+-- 4.2.5 and 4.2.6).
 use Rattle.std.specs.Prelude.{ℕ, List, Option}
 use Rattle.ctw_ops.specs.declared.types.Label.{Label}
+use Rattle.ctw_ops.specs.declared.numeric.Profile.{Profile}
 use Rattle.ctw_ops.specs.Types.{ValueType, FunctionType}
 use Rattle.ctw_ops.specs.Tree.{TypeEntry}
 use Rattle.ctw_ops.specs.Code.{Code}
 
--- a module instance: its type entries, and for each index the number in the store that it leads to
+-- a module instance: its profile, its type entries, and for each index the number in the store that it leads to
 pub record ModuleInstance : Type 0 where
+  pub profile : Profile
   pub types : List (TypeEntry Label)
   pub functions : List ℕ
   pub globals : List ℕ

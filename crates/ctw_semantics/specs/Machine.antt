@@ -5,12 +5,14 @@ use Rattle.ctw_ops.specs.declared.types.Label.TheVariants.{Public, Secret}
 use Rattle.ctw_ops.specs.declared.types.Width.TheVariants.{W32}
 use Rattle.ctw_ops.specs.Types.{ValueType, FunctionType, value_type}
 use Rattle.ctw_ops.specs.Equal.{same_label, same_function_type}
-use Rattle.ctw_ops.specs.Numeric.{num_sig_of, is_timed}
+use Rattle.ctw_ops.specs.declared.numeric.NumSig.{NumSig}
+use Rattle.ctw_ops.specs.declared.numeric.Profile.{Profile}
+use Rattle.ctw_ops.specs.Numeric.{num_sig_of, leaks}
+use Rattle.ctw_ops.specs.Limits.{most_weight}
 use Rattle.ctw_ops.specs.Typing.{optional, upon}
 use Rattle.ctw_ops.specs.Code.{Leaf, Unreachable, Nop, Br, BrIf, BrTable, Return, Call, CallIndirect, Drop, Select, LocalGet, LocalSet, LocalTee, GlobalGet, GlobalSet, Load, Store, MemorySize, MemoryGrow, Const, Numeric, Classify, Declassify, Code, Stop, Then, Block, Loop, If, IfElse}
 use Rattle.ctw_num.specs.declared.trap.NumTrap.{NumTrap}
 use Rattle.ctw_num.specs.declared.trap.NumTrap.TheVariants.{DivZero, DivOverflow}
-use Rattle.ctw_num.specs.Integers.{bit_width, wrap}
 use Rattle.ctw_num.specs.Values.{value1, value2}
 use Rattle.ctw_script.specs.declared.trap.TrapCode.{TrapCode}
 use Rattle.ctw_script.specs.declared.trap.TrapCode.TheVariants.{MemoryBounds, TableBounds, EmptyEntry, CallType, Exhausted}
@@ -18,7 +20,7 @@ use Rattle.ctw_script.specs.declared.event.Event.TheVariants as Events
 use Rattle.ctw_semantics.specs.Values.{Value, value, i32, zero_of}
 use Rattle.ctw_semantics.specs.Stores.{Memory, Storage, number_at, bytes_of_number, written_at, with_bytes, with_number, pages, may_grow, grown}
 use Rattle.ctw_semantics.specs.Instances.{FunctionInstance, Functions}
-use Rattle.ctw_semantics.specs.Activations.{Open, Frame, Activation, weight, most_weight}
+use Rattle.ctw_semantics.specs.Activations.{Open, Frame, Activation, weight}
 use Rattle.ctw_semantics.specs.Answers.{Answer, Goes, Ended, Trapped, Stuck, Reduced, quiet, noting, relabelling, stuck, given, provided, pop, pop_any, pops, carry}
 
 -- ---- places
@@ -51,7 +53,8 @@ with_local h x v = record h { locals = slice_set h.locals x v }
 -- ---- labels and frames (sections 4.4.6 and 4.4.7)
 
 -- a new label is entered
-abbrev pub enter : Here → Code Label → List Value → Option (ValueType Label) → Option (Code Label) → Code Label → Activation
+abbrev pub enter : Here → Code Label → List Value → Option (ValueType Label) → Option (Code Label) → Code Label
+    → Activation
 enter h rest values t again body =
     with_labels h (record { values = []; code = body; result = t; again = again } ∷ innermost h rest values ∷ h.outer)
 
@@ -98,7 +101,8 @@ label_at (suc k) (o ∷ outer) go = label_at k outer go
 -- a branch to the k-th of these labels, which is told by `note`
 abbrev pub branch : (Answer → Reduced) → Storage → Here → ℕ → List Open → List Value → Reduced
 branch note s h k labels values =
-    label_at k labels (λ o outer. carry (target_type o.again o.result) values (λ v. note (arrive s h o.again o.result v outer)))
+    label_at k labels (λ o outer. carry (target_type o.again o.result) values
+    (λ v. note (arrive s h o.again o.result v outer)))
 
 -- a branch that isn't taken, for which its value has to be there all the same
 abbrev pub pass : Reduced → ℕ → List Open → List Value → Reduced
@@ -110,7 +114,8 @@ table_place n targets = if nat_lt n (length targets) then n else length targets
 
 -- ---- calls (section 4.4.7)
 
--- the frame of a call of the function with this number: its arguments, a zero for each declared local, and its body's label
+-- the frame of a call of the function with this number: its arguments, a zero for each declared local, and its body's
+-- label
 abbrev pub frame_of : ℕ → FunctionInstance → List Value → Frame
 frame_of n fn args = record {
   func = n;
@@ -125,10 +130,13 @@ begun n fn args = frame_of n fn args ∷ []
 -- a call from a place, told by `note`: its arguments move from operands to locals
 abbrev pub invoke : (Answer → Reduced) → Storage → Here → Code Label → ℕ → FunctionInstance → List Value → Reduced
 invoke note s h rest n callee values =
-    pops (upon callee.type.params []) [] values (λ args below. note (Goes s (frame_of n callee args ∷ put h rest below)))
+    pops (upon callee.type.params []) [] values
+    (λ args below. note (Goes s (frame_of n callee args ∷ put h rest below)))
 
--- a call through what stands at an index of a table: nothing past its end, perhaps an empty entry, or a function of perhaps another type
-abbrev pub call_entry : Functions → Storage → Here → Code Label → ℕ → FunctionType Label → Option (Option ℕ) → List Value → Reduced
+-- a call through what stands at an index of a table: nothing past its end, perhaps an empty entry, or a function of
+-- perhaps another type
+abbrev pub call_entry : Functions → Storage → Here → Code Label → ℕ → FunctionType Label → Option (Option ℕ)
+    → List Value → Reduced
 call_entry fns s h rest n type None values = noting (Events.Indirect n None) (Trapped TableBounds)
 call_entry fns s h rest n type (Some None) values = noting (Events.Indirect n None) (Trapped EmptyEntry)
 call_entry fns s h rest n type (Some (Some f)) values =
@@ -155,18 +163,21 @@ abbrev pub outcome : Storage → Here → Code Label → ValueType Label → Lis
 outcome s h rest t below (Ok n) = Goes s (put h rest (value t n ∷ below))
 outcome s h rest t below (Err trap) = Trapped (trap_of trap)
 
--- an answer of an operation on two operands: divisions and remainders have public ones, and show them
+-- an answer of an operation on two operands: one that leaks has public ones, and shows them
 abbrev pub showing : Bool → Label → ℕ → ℕ → Answer → Reduced
 showing false l a b answer = quiet answer
 showing true l a b answer = provided (same_label l Public) (noting (Events.Divide a b) answer)
 
--- an operation by the number of its operands
-abbrev pub numeric : Storage → Here → Code Label → ℕ → Label → ℕ → List Value → Reduced
-numeric s h rest op l (suc zero) values = pop (value_type (num_sig_of op).operand l) values (λ n below.
-    quiet (Goes s (put h rest (value (value_type (num_sig_of op).result l) (value1 op n) ∷ below))))
-numeric s h rest op l (suc (suc zero)) values = pop (value_type (num_sig_of op).operand l) values (λ b below. pop (value_type (num_sig_of op).operand l) below (λ a below'.
-    showing (is_timed op) l a b (outcome s h rest (value_type (num_sig_of op).result l) below' (value2 op a b))))
-numeric s h rest op l _ values = stuck
+-- an operation under a profile, by its signature and the number of its operands
+abbrev pub numeric : Profile → Storage → Here → Code Label → ℕ → Label → NumSig → ℕ → List Value → Reduced
+numeric profile s h rest op l sig (suc zero) values =
+    pop (value_type sig.operand l) values
+    (λ a below. given (value1 op a) (λ n. quiet (Goes s (put h rest (value (value_type sig.result l) n ∷ below)))))
+numeric profile s h rest op l sig (suc (suc zero)) values =
+    pop (value_type sig.operand l) values (λ b below. pop (value_type sig.operand l) below (λ a below'.
+    given (value2 op a b) (λ r. showing (leaks op profile) l a b
+    (outcome s h rest (value_type sig.result l) below' r))))
+numeric profile s h rest op l sig _ values = stuck
 
 -- ---- instructions
 
@@ -186,14 +197,16 @@ module _ (fns : Functions) (fn : FunctionInstance) (s : Storage) (h : Here) (res
       branch (noting (Events.Table n)) s h k (innermost h rest below ∷ h.outer) below))
   leaf Return values = carry fn.type.result values (λ v. quiet (finish s v h.callers))
   leaf (Call f) values =
-      given (slice_get fn.part.functions f) (λ n. given (slice_get fns n) (λ callee. invoke (noting (Events.Enter n)) s h rest n callee values))
+      given (slice_get fn.part.functions f)
+      (λ n. given (slice_get fns n) (λ callee. invoke (noting (Events.Enter n)) s h rest n callee values))
   leaf (CallIndirect y) values = pop i32 values (λ n below.
       given (slice_get fn.part.types y) (λ entry. given fn.part.table (λ t. given (slice_get s.tables t) (λ table.
       call_entry fns s h rest n entry.type (slice_get table.entries n) below))))
   -- parametric instructions (section 4.4.2)
   leaf Drop values = pop_any values (λ v below. quiet (Goes s (put h rest below)))
   leaf (Select l) values =
-      pop (value_type W32 l) values (λ n below. pop_any below (λ b below'. provided (same_label l b.type.tag) (pop b.type below' (λ a below''.
+      pop (value_type W32 l) values (λ n below.
+      pop_any below (λ b below'. provided (same_label l b.type.tag) (pop b.type below' (λ a below''.
       quiet (Goes s (put h rest (value b.type (if n == 0 then b.number else a) ∷ below'')))))))
   -- variable instructions (section 4.4.3)
   leaf (LocalGet x) values = given (slice_get h.locals x) (λ v. quiet (Goes s (put h rest (v ∷ values))))
@@ -203,15 +216,19 @@ module _ (fns : Functions) (fn : FunctionInstance) (s : Storage) (h : Here) (res
       quiet (Goes s (put (with_local h x (value old.type n)) rest (value old.type n ∷ below)))))
   leaf (GlobalGet x) values = given (slice_get fn.part.globals x) (λ i. given (slice_get s.globals i) (λ g.
       quiet (Goes s (put h rest (g.value ∷ values)))))
-  leaf (GlobalSet x) values = given (slice_get fn.part.globals x) (λ i. given (slice_get s.globals i) (λ g. provided g.mutable (pop g.value.type values (λ n below.
+  leaf (GlobalSet x) values = given (slice_get fn.part.globals x)
+      (λ i. given (slice_get s.globals i) (λ g. provided g.mutable (pop g.value.type values (λ n below.
       quiet (Goes (with_number s i g n) (put h rest below))))))
   -- memory instructions (section 4.4.4)
-  leaf (Load w l count signed align offset) values = memory_of fn s (λ i m. provided (same_label l m.label) (pop i32 values (λ at below.
+  leaf (Load w l count signed align offset) values =
+      memory_of fn s (λ i m. provided (same_label l m.type.tag) (pop i32 values (λ at below.
       noting (Events.Load i (at + offset) count) (
       if nat_le (at + offset + count) (length m.bytes)
       then Goes s (put h rest (value (value_type w l) (number_at w signed count (at + offset) m.bytes) ∷ below))
       else Trapped MemoryBounds))))
-  leaf (Store w l count align offset) values = memory_of fn s (λ i m. provided (same_label l m.label) (pop (value_type w l) values (λ n below. pop i32 below (λ at below'.
+  leaf (Store w l count align offset) values =
+      memory_of fn s (λ i m. provided (same_label l m.type.tag)
+      (pop (value_type w l) values (λ n below. pop i32 below (λ at below'.
       noting (Events.Store i (at + offset) count) (
       if nat_le (at + offset + count) (length m.bytes)
       then Goes (with_bytes s i m (written_at (at + offset) (bytes_of_number count n) m.bytes)) (put h rest below')
@@ -222,13 +239,16 @@ module _ (fns : Functions) (fn : FunctionInstance) (s : Storage) (h : Here) (res
       then Goes (with_bytes s i m (grown m count)) (put h rest (value i32 (pages m) ∷ below))
       else Goes s (put h rest (value i32 4294967295 ∷ below)))))
   -- numeric instructions (section 4.4.1), and the changes of a label
-  leaf (Const w l bits) values = quiet (Goes s (put h rest (value (value_type w l) (wrap (bit_width w) bits) ∷ values)))
-  leaf (Numeric op l) values = numeric s h rest op l (num_sig_of op).arity values
-  leaf (Classify w) values = pop (value_type w Public) values (λ n below. relabelling None (Goes s (put h rest (value (value_type w Secret) n ∷ below))))
-  leaf (Declassify w) values = pop (value_type w Secret) values (λ n below. relabelling (Some n) (Goes s (put h rest (value (value_type w Public) n ∷ below))))
+  leaf (Const w l bits) values = quiet (Goes s (put h rest (value (value_type w l) bits ∷ values)))
+  leaf (Numeric op l) values = given (num_sig_of op) (λ sig. numeric fn.part.profile s h rest op l sig sig.arity values)
+  leaf (Classify w) values = pop (value_type w Public) values
+      (λ n below. relabelling None (Goes s (put h rest (value (value_type w Secret) n ∷ below))))
+  leaf (Declassify w) values = pop (value_type w Secret) values
+      (λ n below. relabelling (Some n) (Goes s (put h rest (value (value_type w Public) n ∷ below))))
 
 -- an `if` takes its operand and opens a block around one of its arms
-abbrev pub choose : Storage → Here → Code Label → Option (ValueType Label) → Code Label → Code Label → List Value → Reduced
+abbrev pub choose : Storage → Here → Code Label → Option (ValueType Label) → Code Label → Code Label → List Value
+    → Reduced
 choose s h rest t arm other values = pop i32 values (λ n below.
     noting (Events.Branch (not (n == 0))) (Goes s (enter h rest below t None (if n == 0 then other else arm))))
 
@@ -256,7 +276,14 @@ limited r = record r { answer = within_weight r.answer }
 
 -- the place of a frame's innermost label
 abbrev pub here : Frame → Open → List Open → List Frame → Here
-here f o outer callers = record { func = f.func; locals = f.locals; result = o.result; again = o.again; outer = outer; callers = callers }
+here f o outer callers = record {
+  func = f.func;
+  locals = f.locals;
+  result = o.result;
+  again = o.again;
+  outer = outer;
+  callers = callers;
+}
 
 -- one reduction in a frame with these labels
 abbrev pub in_frame : Functions → Storage → Frame → List Open → List Frame → Reduced

@@ -5,9 +5,14 @@ use Rattle.ctw_ops.specs.Tree.{Module, Function, function_entries, global_types,
 use Rattle.ctw_semantics.specs.Instances.{ModuleInstance, FunctionInstance}
 use Rattle.ctw_semantics.specs.Sound.{IndexTypes}
 
--- the instance of a function that a module defines, in an instance of the module
+-- the instance of a function that a module defines, in an instance of the module, with its type entries and its profile
 abbrev pub instance_of : ModuleInstance → Module Label → Function Label → FunctionInstance
-instance_of part m f = record { part = part; type = type_named m f.type; locals = f.locals; body = f.body }
+instance_of part m f = record {
+  part = record part { types = m.types; profile = m.profile };
+  type = type_named m f.type;
+  locals = f.locals;
+  body = f.body;
+}
 
 -- the types of what a module's indexes lead to
 abbrev pub index_types : Module Label → IndexTypes

@@ -19,22 +19,28 @@ abbrev pub behind : {S : Type 0} → ℕ → Code S → Code S
 behind zero code = code
 behind (suc n) code = behind_first (behind n code)
 
--- a sequence begins with an instruction that opens a label with this result and loop body around `inside`, and goes on with `rest`
+-- a sequence begins with an instruction that opens a label with this result and loop body around `inside`, and goes
+-- on with `rest`
 abbrev pub Opens : Code Label → Option (ValueType Label) → Option (Code Label) → Code Label → Code Label → Type 0
 Opens (Block t body after) result again inside rest = (t ≡ result) × (again ≡ None) × (inside ≡ body) × (rest ≡ after)
-Opens (Loop t body after) result again inside rest = (t ≡ result) × (again ≡ Some body) × (inside ≡ body) × (rest ≡ after)
-Opens (If t arm after) result again inside rest = (t ≡ result) × (again ≡ None) × ((inside ≡ arm) ⊎ (inside ≡ Stop)) × (rest ≡ after)
-Opens (IfElse t arm other after) result again inside rest = (t ≡ result) × (again ≡ None) × ((inside ≡ arm) ⊎ (inside ≡ other)) × (rest ≡ after)
+Opens (Loop t body after) result again inside rest =
+    (t ≡ result) × (again ≡ Some body) × (inside ≡ body) × (rest ≡ after)
+Opens (If t arm after) result again inside rest =
+    (t ≡ result) × (again ≡ None) × ((inside ≡ arm) ⊎ (inside ≡ Stop)) × (rest ≡ after)
+Opens (IfElse t arm other after) result again inside rest =
+    (t ≡ result) × (again ≡ None) × ((inside ≡ arm) ⊎ (inside ≡ other)) × (rest ≡ after)
 Opens _ result again inside rest = ⊥
 
--- These labels of a body stand outside a label with this result and loop body around this sequence. The outermost label is the
--- body's own.
+-- These labels of a body stand outside a label with this result and loop body around this sequence. The outermost
+-- label is the body's own.
 abbrev pub StandOutside : Code Label → Option (ValueType Label) → Option (Code Label) → Code Label → List Open → Type 0
 StandOutside body result again inside [] = inside ≡ body
 StandOutside body result again inside (o ∷ outer) =
-    (whole : Code Label) × (n : ℕ) × Opens (behind n whole) result again inside o.code × StandOutside body o.result o.again whole outer
+    (whole : Code Label) × (n : ℕ) × Opens (behind n whole) result again inside o.code
+    × StandOutside body o.result o.again whole outer
 
 -- open labels around one place of a body, where the code of each is what is left there
 abbrev pub StandIn : Code Label → List Open → Type 0
 StandIn body [] = ⊥
-StandIn body (o ∷ outer) = (inside : Code Label) × (n : ℕ) × (o.code ≡ behind n inside) × StandOutside body o.result o.again inside outer
+StandIn body (o ∷ outer) = (inside : Code Label) × (n : ℕ) × (o.code ≡ behind n inside)
+    × StandOutside body o.result o.again inside outer

@@ -23,13 +23,17 @@ abbrev pub seen_value : Value → Value
 seen_value v = value v.type (seen_number v.type.tag v.number)
 
 abbrev pub seen_memory : Memory → Memory
-seen_memory m = record m { bytes = seen_bytes m.label m.bytes }
+seen_memory m = record m { bytes = seen_bytes m.type.tag m.bytes }
 
 abbrev pub seen_global : Global → Global
 seen_global g = record g { value = seen_value g.value }
 
 abbrev pub seen_storage : Storage → Storage
-seen_storage s = record { memories = map seen_memory s.memories; globals = map seen_global s.globals; tables = s.tables }
+seen_storage s = record {
+  memories = map seen_memory s.memories;
+  globals = map seen_global s.globals;
+  tables = s.tables;
+}
 
 abbrev pub seen_open : Open → Open
 seen_open o = record o { values = map seen_value o.values }
@@ -46,8 +50,8 @@ seen_answer (Ended v) = Ended (option_map seen_value v)
 seen_answer (Trapped code) = Trapped code
 seen_answer Stuck = Stuck
 
--- Stores and activations that differ in secret numbers and secret bytes alone: the same frames, labels and instructions with
--- values of equal types, memories and tables of equal sizes, and equal public numbers and bytes.
+-- Stores and activations that differ in secret numbers and secret bytes alone: the same frames, labels and
+-- instructions with values of equal types, memories and tables of equal sizes, and equal public numbers and bytes.
 abbrev pub Agree : Storage → Activation → Storage → Activation → Type 0
 Agree s a t b = (seen_storage s ≡ seen_storage t) × (seen a ≡ seen b)
 
@@ -68,7 +72,8 @@ seen_left Steps.Stuck = Steps.Stuck
 abbrev pub seen_turned : Turned → Turned
 seen_turned x = record x { storage = seen_storage x.storage; left = seen_left x.left; releases = [] }
 
--- Two runs that released these numbers look the same where the numbers are equal. It is said of runs that may go on and release more:
--- where all that is released is equal, they look the same so far, and what is released later is equal too.
+-- Two runs that released these numbers look the same where the numbers are equal. It is said of runs that may go on
+-- and release more: where all that is released is equal, they look the same so far, and what is released later is
+-- equal too.
 pub record LookSame {A : Type 0} (a b : A) (releases others : List ℕ) : Type 0 where
   pub by : (later more : List ℕ) → releases ++ later ≡ others ++ more → (a ≡ b) × (later ≡ more)

@@ -1,19 +1,19 @@
 -- Sound states: every value has the type that its place wants, and every index leads somewhere.
-use Rattle.std.specs.Prelude.{◌≡◌, ◌≤◌, ◌<◌, ◌*◌, ◌^◌, ℕ, List, [], ◌∷◌, ◌++◌, map, length, Option, Some, None, is_some, slice_get, All, Contains}
+use Rattle.std.specs.Prelude.{◌≡◌, ◌≤◌, ◌<◌, ◌*◌, ℕ, List, [], ◌∷◌, ◌++◌, map, length, Option, Some, None, is_some, IfSome, slice_get, All, Contains}
 use Rattle.ctw_ops.specs.declared.types.Label.{Label}
 use Rattle.ctw_ops.specs.declared.types.Label.TheVariants.{Public, Secret}
 use Rattle.ctw_ops.specs.declared.types.Trust.TheVariants.{Untrusted}
-use Rattle.ctw_ops.specs.Types.{ValueType, FunctionType, VariableType, erase_function_type}
+use Rattle.ctw_ops.specs.Types.{ValueType, FunctionType, VariableType, MemoryType, FitsWidth, EraseAlike}
 use Rattle.ctw_ops.specs.Tree.{TypeEntry}
 use Rattle.ctw_ops.specs.Code.{Code}
 use Rattle.ctw_ops.specs.Typing.{Context, Typed, optional, upon}
-use Rattle.ctw_ops.specs.Erasure.{VariantsFit}
+use Rattle.ctw_ops.specs.Valid.{AreTypes}
+use Rattle.ctw_ops.specs.Limits.{page_size, most_memory_pages, most_set_pages, most_weight}
 use Rattle.ctw_ops.specs.IndirectCalls.{indirect_calls}
-use Rattle.ctw_num.specs.Integers.{bit_width}
 use Rattle.ctw_semantics.specs.Values.{Value}
-use Rattle.ctw_semantics.specs.Stores.{Memory, Global, Table, Storage, pages, all_pages, most_pages}
+use Rattle.ctw_semantics.specs.Stores.{Memory, Global, Table, Storage, pages, all_pages, most_pages_of}
 use Rattle.ctw_semantics.specs.Instances.{ModuleInstance, FunctionInstance, Functions}
-use Rattle.ctw_semantics.specs.Activations.{Open, Frame, Activation, weight, most_weight}
+use Rattle.ctw_semantics.specs.Activations.{Open, Frame, Activation, weight}
 use Rattle.ctw_semantics.specs.Answers.{Answer, Goes, Ended, Trapped, Stuck}
 use Rattle.ctw_semantics.specs.Steps as Steps
 use Rattle.ctw_semantics.specs.Steps.{Left, Running, Finished, Turned}
@@ -22,40 +22,41 @@ use Rattle.ctw_semantics.specs.Places.{StandIn}
 
 -- ---- stores
 
--- what a memory keeps through all runs: its label and its greatest size
-pub record MemoryShape : Type 0 where
-  pub label : Label
-  pub max : Option ℕ
-
--- what a store keeps through all runs
+-- what a store keeps through all runs: the types of its memories and globals, and its tables
 pub record Shape : Type 0 where
-  pub memories : List MemoryShape
+  pub memories : List (MemoryType Label)
   pub globals : List (VariableType Label)
   pub tables : List Table
-
-abbrev pub memory_shape : Memory → MemoryShape
-memory_shape m = record { label = m.label; max = m.max }
 
 abbrev pub global_type : Global → VariableType Label
 global_type g = record { mutable = g.mutable; value = g.value.type }
 
 abbrev pub shape_of : Storage → Shape
-shape_of s = record { memories = map memory_shape s.memories; globals = map global_type s.globals; tables = s.tables }
+shape_of s = record { memories = map (λ m. m.type) s.memories; globals = map global_type s.globals; tables = s.tables }
 
 -- a value's number has the width of its type
 abbrev pub ValueFits : Value → Type 0
-ValueFits v = v.number < 2 ^ bit_width v.type.width
+ValueFits v = FitsWidth v.type.width v.number
 
--- a memory is whole pages, within its declared greatest size and within 65,536
-abbrev pub MemoryFits : Memory → Type 0
-MemoryFits m = (length m.bytes ≡ 65536 * pages m) × (pages m ≤ most_pages m.max) × (pages m ≤ 65536)
+-- a memory is whole pages of bytes, within its limits and those of all memories
+pub record MemoryFits (m : Memory) : Type 0 where
+  pub whole : length m.bytes ≡ page_size * pages m
+  pub least : m.type.limits.min ≤ pages m
+  pub greatest : pages m ≤ most_pages_of m.type
+  pub most : pages m ≤ most_memory_pages
+  pub bytes : All (λ byte. byte < 256) m.bytes
 
--- a sound store of this shape; all its memories together have at most 4,096 pages
+-- a table is within its limits
+abbrev pub TableFits : Table → Type 0
+TableFits t = (t.limits.min ≤ length t.entries) × IfSome t.limits.max (λ max. length t.entries ≤ max)
+
+-- a sound store of this shape; all its memories together have no more pages than a set may have
 pub record SoundStorage (shape : Shape) (s : Storage) : Type 0 where
   pub shaped : shape_of s ≡ shape
   pub memories : All MemoryFits s.memories
-  pub total : all_pages s.memories ≤ 4096
+  pub total : all_pages s.memories ≤ most_set_pages
   pub globals : All (λ g. ValueFits g.value) s.globals
+  pub tables : All TableFits s.tables
 
 -- ---- functions
 
@@ -79,32 +80,36 @@ context names fn labels = record {
   labels = labels;
   public = Public;
   secret = Secret;
+  profile = fn.part.profile;
 }
 
 -- the indexes of a module lead to things of these types in a store of this shape
 pub record IndexesLead (fns : Functions) (shape : Shape) (part : ModuleInstance) (names : IndexTypes) : Type 0 where
   pub functions : (f : ℕ) (t : FunctionType Label) → slice_get names.functions f ≡ Some t
-      → (n : ℕ) × (callee : FunctionInstance) × (slice_get part.functions f ≡ Some n) × (slice_get fns n ≡ Some callee) × (callee.type ≡ t)
+      → (n : ℕ) × (callee : FunctionInstance) × (slice_get part.functions f ≡ Some n)
+      × (slice_get fns n ≡ Some callee) × (callee.type ≡ t)
   pub globals : (x : ℕ) (t : VariableType Label) → slice_get names.globals x ≡ Some t
       → (i : ℕ) × (slice_get part.globals x ≡ Some i) × (slice_get shape.globals i ≡ Some t)
   pub memory : (l : Label) → names.memory ≡ Some l
-      → (i : ℕ) × (m : MemoryShape) × (part.memory ≡ Some i) × (slice_get shape.memories i ≡ Some m) × (m.label ≡ l)
+      → (i : ℕ) × (m : MemoryType Label) × (part.memory ≡ Some i) × (slice_get shape.memories i ≡ Some m) × (m.tag ≡ l)
   pub table : (t : ℕ) → part.table ≡ Some t → (table : Table) × (slice_get shape.tables t ≡ Some table)
 
 -- a function whose body has its type in its module
 pub record FunctionTyped (fns : Functions) (shape : Shape) (fn : FunctionInstance) : Type 0 where
   pub names : IndexTypes
   pub leads : IndexesLead fns shape fn.part names
-  pub variants : VariantsFit fn.part.types
+  pub variants : AreTypes fn.part.types
   pub body : Typed (context names fn (fn.type.result ∷ [])) fn.body [] (optional fn.type.result)
 
--- a function in the table of a function and the type of one of that function's indirect calls are equal where they erase alike
+-- a function in the table of a function and the type of one of that function's indirect calls are equal where they
+-- erase alike
 abbrev pub UsersAlike : Functions → Shape → FunctionInstance → Type 0
 UsersAlike fns shape fn =
     (t y f : ℕ) (table : Table) (entry : TypeEntry Label) (callee : FunctionInstance)
-    → fn.part.table ≡ Some t → slice_get shape.tables t ≡ Some table → Contains table.entries (Some f) → slice_get fns f ≡ Some callee
+    → fn.part.table ≡ Some t → slice_get shape.tables t ≡ Some table → Contains table.entries (Some f)
+    → slice_get fns f ≡ Some callee
     → Contains (indirect_calls fn.body) y → slice_get fn.part.types y ≡ Some entry
-    → erase_function_type callee.type ≡ erase_function_type entry.type → callee.type ≡ entry.type
+    → EraseAlike callee.type entry.type → callee.type ≡ entry.type
 
 -- a set of typed functions over stores of a shape, with functions in its tables
 pub record SoundSet (fns : Functions) (shape : Shape) : Type 0 where
@@ -126,28 +131,35 @@ abbrev pub target_types : List Open → List (Option (ValueType Label))
 target_types labels = map (λ o. target_type o.again o.result) labels
 
 -- a loop's body can be run again inside these labels
-abbrev pub AgainTyped : IndexTypes → FunctionInstance → Option (Code Label) → Option (ValueType Label) → List (Option (ValueType Label)) → Type 0
+abbrev pub AgainTyped : IndexTypes → FunctionInstance → Option (Code Label) → Option (ValueType Label)
+    → List (Option (ValueType Label)) → Type 0
 AgainTyped names fn None t labels = Unit {0}
 AgainTyped names fn (Some body) t labels = Typed (context names fn (None ∷ labels)) body [] (optional t)
 
 -- an open label inside these labels: its code goes from its operands, with what arrives put upon them, to its result
-pub record OpenTyped (names : IndexTypes) (fn : FunctionInstance) (labels : List (Option (ValueType Label))) (arrives : List (ValueType Label)) (o : Open) : Type 0 where
+pub record OpenTyped (names : IndexTypes) (fn : FunctionInstance) (labels : List (Option (ValueType Label)))
+    (arrives : List (ValueType Label)) (o : Open) : Type 0 where
   pub holds : List (ValueType Label)
   pub values : HasTypes holds o.values
-  pub code : Typed (context names fn (target_type o.again o.result ∷ labels)) o.code (upon arrives holds) (optional o.result)
+  pub code : Typed (context names fn (target_type o.again o.result ∷ labels)) o.code (upon arrives holds)
+      (optional o.result)
   pub again : AgainTyped names fn o.again o.result labels
 
 -- the labels outside one with this result and loop body; each waits for the result of the one inside
-abbrev pub OuterTyped : IndexTypes → FunctionInstance → Option (ValueType Label) → Option (Code Label) → List Open → Type 0
+abbrev pub OuterTyped : IndexTypes → FunctionInstance → Option (ValueType Label) → Option (Code Label) → List Open
+    → Type 0
 OuterTyped names fn t again [] = (t ≡ fn.type.result) × (again ≡ None)
-OuterTyped names fn t again (o ∷ outer) = OpenTyped names fn (target_types outer) (optional t) o × OuterTyped names fn o.result o.again outer
+OuterTyped names fn t again (o ∷ outer) =
+    OpenTyped names fn (target_types outer) (optional t) o × OuterTyped names fn o.result o.again outer
 
 abbrev pub LabelsTyped : IndexTypes → FunctionInstance → List (ValueType Label) → List Open → Type 0
 LabelsTyped names fn arrives [] = ⊥
-LabelsTyped names fn arrives (o ∷ outer) = OpenTyped names fn (target_types outer) arrives o × OuterTyped names fn o.result o.again outer
+LabelsTyped names fn arrives (o ∷ outer) =
+    OpenTyped names fn (target_types outer) arrives o × OuterTyped names fn o.result o.again outer
 
 -- a frame of this function that goes on when these values arrive
-pub record FrameTyped (fns : Functions) (shape : Shape) (arrives : List (ValueType Label)) (fn : FunctionInstance) (f : Frame) : Type 0 where
+pub record FrameTyped (fns : Functions) (shape : Shape) (arrives : List (ValueType Label)) (fn : FunctionInstance)
+    (f : Frame) : Type 0 where
   pub found : slice_get fns f.func ≡ Some fn
   pub names : IndexTypes
   pub leads : IndexesLead fns shape fn.part names
@@ -155,16 +167,21 @@ pub record FrameTyped (fns : Functions) (shape : Shape) (arrives : List (ValueTy
   pub labels : LabelsTyped names fn arrives f.labels
   pub place : StandIn fn.body f.labels
 
--- the callers of a function with this result; each waits for the result of the one inside, and the outermost has the last result
+-- the callers of a function with this result; each waits for the result of the one inside, and the outermost has the
+-- last result
 abbrev pub CallersTyped : Functions → Shape → Option (ValueType Label) → Option (ValueType Label) → List Frame → Type 0
 CallersTyped fns shape last t [] = t ≡ last
-CallersTyped fns shape last t (f ∷ callers) = (fn : FunctionInstance) × FrameTyped fns shape (optional t) fn f × CallersTyped fns shape last fn.type.result callers
+CallersTyped fns shape last t (f ∷ callers) =
+    (fn : FunctionInstance) × FrameTyped fns shape (optional t) fn f
+    × CallersTyped fns shape last fn.type.result callers
 
 abbrev pub ActivationTyped : Functions → Shape → Option (ValueType Label) → Activation → Type 0
 ActivationTyped fns shape last [] = ⊥
-ActivationTyped fns shape last (f ∷ callers) = (fn : FunctionInstance) × FrameTyped fns shape [] fn f × CallersTyped fns shape last fn.type.result callers
+ActivationTyped fns shape last (f ∷ callers) =
+    (fn : FunctionInstance) × FrameTyped fns shape [] fn f × CallersTyped fns shape last fn.type.result callers
 
--- A sound call that will give this result. It speaks of the store's shape alone, so no step of another call over the store changes it.
+-- A sound call that will give this result. It speaks of the store's shape alone, so no step of another call over the
+-- store changes it.
 pub record SoundCall (fns : Functions) (shape : Shape) (last : Option (ValueType Label)) (a : Activation) : Type 0 where
   pub typed : ActivationTyped fns shape last a
   pub light : weight a ≤ most_weight

@@ -40,7 +40,11 @@ stops r = record { answer = r.answer; event = r.event; releases = optional r.rel
 
 -- goes on after a reduction that gave this answer, event and release
 abbrev pub then_step : Answer → Option Event → Option ℕ → (Storage → Activation → Stepped) → Stepped
-then_step (Goes s a) event release go = record { answer = (go s a).answer; event = (go s a).event; releases = optional release ++ (go s a).releases }
+then_step (Goes s a) event release go = record {
+  answer = (go s a).answer;
+  event = (go s a).event;
+  releases = optional release ++ (go s a).releases;
+}
 then_step answer event release go = record { answer = answer; event = event; releases = optional release }
 
 -- so many reductions, and then one more
@@ -70,10 +74,19 @@ pub record Turned : Type 0 where
 -- goes on after a step; one that ends or traps leaves the store as it was
 abbrev pub then_turn : Storage → Answer → Option Event → List ℕ → (Storage → Activation → Turned) → Turned
 then_turn s (Goes t a) event releases go =
-    record { storage = (go t a).storage; left = (go t a).left; steps = suc (go t a).steps; events = optional event ++ (go t a).events; releases = releases ++ (go t a).releases }
-then_turn s (Ended v) event releases go = record { storage = s; left = Finished v; steps = 1; events = optional event; releases = releases }
-then_turn s (Answers.Trapped code) event releases go = record { storage = s; left = Trapped code; steps = 1; events = optional event; releases = releases }
-then_turn s Answers.Stuck event releases go = record { storage = s; left = Stuck; steps = 1; events = optional event; releases = releases }
+    record {
+      storage = (go t a).storage;
+      left = (go t a).left;
+      steps = suc (go t a).steps;
+      events = optional event ++ (go t a).events;
+      releases = releases ++ (go t a).releases;
+    }
+then_turn s (Ended v) event releases go =
+    record { storage = s; left = Finished v; steps = 1; events = optional event; releases = releases }
+then_turn s (Answers.Trapped code) event releases go =
+    record { storage = s; left = Trapped code; steps = 1; events = optional event; releases = releases }
+then_turn s Answers.Stuck event releases go =
+    record { storage = s; left = Stuck; steps = 1; events = optional event; releases = releases }
 
 -- steps until so many are taken, or the activation ends or traps
 abbrev pub turn : ℕ → Functions → Storage → Activation → Turned

@@ -77,3 +77,10 @@ exact_when_both s test1 test2 P1 P2 r R e1 e2 h =
     exact_iff s (when test1 (when test2 r)) (λ a b. P1 × (P2 × R a b)) (λ a b. P1 × P2 × R a b)
     (λ a b. ((λ i. (i.0, i.1.0, i.1.1)), (λ i. (i.0, (i.1, i.2)))))
     (exact_when s test1 P1 (when test2 r) (λ a b. P2 × R a b) e1 (exact_when s test2 P2 r R e2 h))
+
+pub exact_when_three : {S : Type 0} (s : Operands S) (test1 test2 test3 : Bool) (P1 P2 P3 : Type 0) (r : Option (Operands S)) (R : Rel S) → ((test1 ≡ true) ↔ P1) → ((test2 ≡ true) ↔ P2) → ((test3 ≡ true) ↔ P3) → Exact s r R
+    → Exact s (when test1 (when test2 (when test3 r))) (λ a b. P1 × P2 × P3 × R a b)
+exact_when_three s test1 test2 test3 P1 P2 P3 r R e1 e2 e3 h =
+    exact_iff s (when test1 (when test2 (when test3 r))) (λ a b. P1 × (P2 × P3 × R a b)) (λ a b. P1 × P2 × P3 × R a b)
+    (λ a b. ((λ i. (i.0, i.1.0, i.1.1, i.1.2)), (λ i. (i.0, (i.1, i.2, i.3)))))
+    (exact_when s test1 P1 (when test2 (when test3 r)) (λ a b. P2 × P3 × R a b) e1 (exact_when_both s test2 test3 P2 P3 r R e2 e3 h))

@@ -2,6 +2,7 @@
 use Rattle.std.proofs.Common.{◌≡◌, ◌+◌, ℕ, Bool, true, false, List, [], ◌∷◌, Option, Some, None, take, refl}
 use Rattle.std.specs.Prelude.{is_some}
 use Rattle.ctw_ops.specs.declared.types.Width.TheVariants.{W32, W64}
+use Rattle.ctw_ops.specs.declared.numeric.Profile.TheVariants.{Divide}
 use Rattle.ctw_ops.specs.declared.types.Label.{Label}
 use Rattle.ctw_ops.specs.declared.types.Label.TheVariants.{Public, Secret}
 use Rattle.ctw_ops.specs.declared.types.Trust.TheVariants.{Untrusted}
@@ -30,6 +31,7 @@ own_context locals result = record {
   labels = result ∷ [];
   public = Public;
   secret = Secret;
+  profile = Divide;
 }
 
 -- whether the pass ends with no block open

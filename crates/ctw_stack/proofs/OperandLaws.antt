@@ -9,7 +9,8 @@ use Rattle.ctw_ops.specs.Segments.{and_then}
 use Rattle.ctw_stack.specs.declared.slot.Slot.{Slot}
 use Rattle.ctw_stack.specs.declared.slot.Slot.TheVariants.{Known, Wide, Unknown}
 use Rattle.ctw_stack.specs.Operands.{Operands, Popped, Fits, Holds, Denotes, killed, pop, pop_from, push}
-use Rattle.ctw_stack.specs.Steps.{IsExactTest, same_width, push_type, pushes, dropped, width_of, merged, when, fits, expect, expects, may_have, joined, chosen, moved, left_by}
+use Rattle.ctw_ops.specs.Equal.{same_width}
+use Rattle.ctw_stack.specs.Steps.{IsExactTest, push_type, pushes, dropped, width_of, merged, when, fits, expect, expects, may_have, joined, chosen, moved, left_by}
 use Rattle.ctw_stack.proofs.Exact.{Types, Rel, Image, Exact, exact_iff, exact_after, exact_and_then, Seq}
 
 pub same_width_iff : (v w : Width) → (same_width v w ≡ true) ↔ (v ≡ w)

@@ -1,19 +1,20 @@
 -- The step of one instruction is exact for its row.
 use Rattle.std.proofs.Common.{◌≡◌, ◌≤◌, ◌^◌, ℕ, Bool, true, false, not, List, [], ◌∷◌, ◌++◌, Option, Some, None, refl, sym, ◌∙◌, ap, subst}
-use Rattle.std.specs.Prelude.{◌↔◌, ◌||◌, slice_get, All, nat_le}
+use Rattle.std.specs.Prelude.{◌↔◌, ◌<◌, ◌||◌, slice_get, All, nat_le, nat_lt}
 use Rattle.std.proofs.lemmas.List.Elements.{All-nil, All-cons, All-head, All-tail}
-use Rattle.std.proofs.lemmas.Bool.{leb-true, le-leb}
+use Rattle.std.proofs.lemmas.Bool.{leb-true, le-leb, ltb-true, lt-ltb}
 use Rattle.ctw_ops.specs.declared.types.Width.TheVariants.{W32}
 use Rattle.ctw_ops.specs.declared.types.Trust.{Trust}
 use Rattle.ctw_ops.specs.declared.types.Trust.TheVariants.{Untrusted, Trusted}
-use Rattle.ctw_ops.specs.Types.{ValueType, FunctionType, value_type}
-use Rattle.ctw_ops.specs.Numeric.{num_sig_of, is_timed}
+use Rattle.ctw_ops.specs.Types.{ValueType, FunctionType, FitsWidth, value_type, bit_width}
+use Rattle.ctw_ops.specs.Forms.{is_load, is_store}
+use Rattle.ctw_ops.specs.Numeric.{num_sig_of, leaks}
 use Rattle.ctw_ops.specs.Code.{Leaf, Unreachable, Nop, Br, BrIf, BrTable, Return, Call, CallIndirect, Drop, Select, LocalGet, LocalSet, LocalTee, GlobalGet, GlobalSet, Load, Store, MemorySize, MemoryGrow, Const, Numeric, Classify, Declassify}
 use Rattle.ctw_ops.specs.Typing.{Context, Moves, Leaves, MayCall, Row, optional, i32, operands}
 use Rattle.ctw_ops.specs.Segments.{and_then}
 use Rattle.ctw_stack.specs.Operands.{Operands, Denotes}
 use Rattle.ctw_stack.specs.Steps.{IsExactTest, when, may_call, is_trusted, same_type, same_result, is_label, are_labels, is_tag, step, dropped, chosen, moved, left_by, expect}
-use Rattle.ctw_stack.proofs.Exact.{Exact, Seq, exact_iff, exact_and_then, exact_when, exact_look, exact_look_when, exact_when_both}
+use Rattle.ctw_stack.proofs.Exact.{Exact, Seq, exact_iff, exact_and_then, exact_when, exact_look, exact_look_when, exact_when_three}
 use Rattle.ctw_stack.proofs.OperandLaws.{same_width_iff, and_iff, true_iff, false_true, Takes, exact_expect, exact_moved, exact_dead, exact_left, exact_dropped, Chooses, exact_chosen}
 
 pub may_call_iff : (x y : Trust) → (may_call x y ≡ true) ↔ MayCall x y
@@ -32,6 +33,9 @@ implies_iff true y P f = ((λ e q. f.0 e), (λ g. f.1 (g refl)))
 
 pub nat_le_iff : (m n : ℕ) → (nat_le m n ≡ true) ↔ (m ≤ n)
 nat_le_iff m n = (leb-true m n, le-leb m n)
+
+pub nat_lt_iff : (m n : ℕ) → (nat_lt m n ≡ true) ↔ (m < n)
+nat_lt_iff m n = (ltb-true m n, lt-ltb m n)
 
 pub itself_iff : (b : Bool) → (b ≡ true) ↔ (b ≡ true)
 itself_iff b = ((λ e. e), (λ e. e))
@@ -116,17 +120,20 @@ module _ {S : Type 0} (same : S → S → Bool) (eq : IsExactTest same) where
       exact_look_when s (slice_get C.globals x) (λ g. g.mutable) (λ g. moved same (g.value ∷ []) [] s) (λ g. g.mutable ≡ true) (λ g. Moves (g.value ∷ []) [])
       (λ g. itself_iff g.mutable) (λ g. exact_moved same eq (g.value ∷ []) [] s)
   step_law C (Load w l n b al off) s =
-      exact_when_both s (is_tag same l C.memory) (nat_le (2 ^ al) n) (C.memory ≡ Some l) (2 ^ al ≤ n) (moved same (i32 C ∷ []) (value_type w l ∷ []) s) (Moves (i32 C ∷ []) (value_type w l ∷ []))
-      (has_memory_iff C l) (nat_le_iff (2 ^ al) n) (exact_moved same eq (i32 C ∷ []) (value_type w l ∷ []) s)
+      exact_when_three s (is_load w n b) (is_tag same l C.memory) (nat_le (2 ^ al) n) (is_load w n b ≡ true) (C.memory ≡ Some l) (2 ^ al ≤ n) (moved same (i32 C ∷ []) (value_type w l ∷ []) s) (Moves (i32 C ∷ []) (value_type w l ∷ []))
+      (itself_iff (is_load w n b)) (has_memory_iff C l) (nat_le_iff (2 ^ al) n) (exact_moved same eq (i32 C ∷ []) (value_type w l ∷ []) s)
   step_law C (Store w l n al off) s =
-      exact_when_both s (is_tag same l C.memory) (nat_le (2 ^ al) n) (C.memory ≡ Some l) (2 ^ al ≤ n) (moved same (i32 C ∷ value_type w l ∷ []) [] s) (Moves (i32 C ∷ value_type w l ∷ []) [])
-      (has_memory_iff C l) (nat_le_iff (2 ^ al) n) (exact_moved same eq (i32 C ∷ value_type w l ∷ []) [] s)
+      exact_when_three s (is_store w n) (is_tag same l C.memory) (nat_le (2 ^ al) n) (is_store w n ≡ true) (C.memory ≡ Some l) (2 ^ al ≤ n) (moved same (i32 C ∷ value_type w l ∷ []) [] s) (Moves (i32 C ∷ value_type w l ∷ []) [])
+      (itself_iff (is_store w n)) (has_memory_iff C l) (nat_le_iff (2 ^ al) n) (exact_moved same eq (i32 C ∷ value_type w l ∷ []) [] s)
   step_law C MemorySize s = exact_look s C.memory (λ l. moved same [] (i32 C ∷ []) s) (λ l. Moves [] (i32 C ∷ [])) (λ l. exact_moved same eq [] (i32 C ∷ []) s)
   step_law C MemoryGrow s = exact_look s C.memory (λ l. moved same (i32 C ∷ []) (i32 C ∷ []) s) (λ l. Moves (i32 C ∷ []) (i32 C ∷ [])) (λ l. exact_moved same eq (i32 C ∷ []) (i32 C ∷ []) s)
-  step_law C (Const w l n) s = exact_moved same eq [] (value_type w l ∷ []) s
+  step_law C (Const w l n) s =
+      exact_when s (nat_lt n (2 ^ bit_width w)) (FitsWidth w n) (moved same [] (value_type w l ∷ []) s) (Moves [] (value_type w l ∷ []))
+      (nat_lt_iff n (2 ^ bit_width w)) (exact_moved same eq [] (value_type w l ∷ []) s)
   step_law C (Numeric op l) s =
-      exact_when s (not (is_timed op) || same l C.public) (is_timed op ≡ true → l ≡ C.public) (moved same (operands (num_sig_of op) l) (value_type (num_sig_of op).result l ∷ []) s) (Moves (operands (num_sig_of op) l) (value_type (num_sig_of op).result l ∷ []))
-      (implies_iff (is_timed op) (same l C.public) (l ≡ C.public) (eq l C.public)) (exact_moved same eq (operands (num_sig_of op) l) (value_type (num_sig_of op).result l ∷ []) s)
+      exact_look_when s (num_sig_of op) (λ sig. not (leaks op C.profile) || same l C.public) (λ sig. moved same (operands sig l) (value_type sig.result l ∷ []) s)
+      (λ sig. leaks op C.profile ≡ true → l ≡ C.public) (λ sig. Moves (operands sig l) (value_type sig.result l ∷ []))
+      (λ sig. implies_iff (leaks op C.profile) (same l C.public) (l ≡ C.public) (eq l C.public)) (λ sig. exact_moved same eq (operands sig l) (value_type sig.result l ∷ []) s)
   step_law C (Classify w) s = exact_moved same eq (value_type w C.public ∷ []) (value_type w C.secret ∷ []) s
   step_law C (Declassify w) s =
       exact_when s (is_trusted C.trust) (C.trust ≡ Trusted) (moved same (value_type w C.secret ∷ []) (value_type w C.public ∷ []) s) (Moves (value_type w C.secret ∷ []) (value_type w C.public ∷ []))

@@ -7,7 +7,8 @@ use Rattle.ctw_ops.specs.Types.{ValueType}
 use Rattle.ctw_stack.specs.declared.slot.Slot.{Slot}
 use Rattle.ctw_stack.specs.Operands.{Operands, Popped, pop, pop_from}
 use Rattle.ctw_stack.specs.Opens.{Open, taken_from, after_push, after_pop, after_kill, label_from, label_of, innermost_of, after_leave, count_of_innermost}
-use Rattle.ctw_stack.specs.Tags.{type_to, slot_to, operands_to, popped_to, open_to, opens_to, taken_to, TagLaw}
+use Rattle.ctw_ops.specs.TagMaps.{type_to}
+use Rattle.ctw_stack.specs.Tags.{slot_to, operands_to, popped_to, open_to, opens_to, taken_to, TagLaw}
 
 module _ {S T : Type 0} (f : S → T) where
   pub pop_tags : (o : Operands S) → pop (operands_to f o) ≡ option_map (popped_to f) (pop o)

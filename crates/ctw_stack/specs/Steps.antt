@@ -1,12 +1,14 @@
 -- What one instruction without instructions inside does to the operands of its block; None where it is refused.
 -- Tags are compared by a test, so that the same pass serves labels and places of a module.
-use Rattle.std.specs.Prelude.{◌≡◌, ◌^◌, ◌↔◌, ℕ, Bool, true, false, not, ◌&&◌, ◌||◌, nat_le, List, [], ◌∷◌, ◌++◌, Option, Some, None, slice_get}
+use Rattle.std.specs.Prelude.{◌≡◌, ◌^◌, ◌↔◌, ℕ, Bool, true, false, not, ◌&&◌, ◌||◌, nat_le, nat_lt, List, [], ◌∷◌, ◌++◌, Option, Some, None, slice_get}
 use Rattle.ctw_ops.specs.declared.types.Width.{Width}
 use Rattle.ctw_ops.specs.declared.types.Width.TheVariants.{W32, W64}
 use Rattle.ctw_ops.specs.declared.types.Trust.{Trust}
 use Rattle.ctw_ops.specs.declared.types.Trust.TheVariants.{Untrusted, Trusted}
-use Rattle.ctw_ops.specs.Types.{ValueType, value_type}
-use Rattle.ctw_ops.specs.Numeric.{num_sig_of, is_timed}
+use Rattle.ctw_ops.specs.Types.{ValueType, value_type, bit_width}
+use Rattle.ctw_ops.specs.Equal.{same_width}
+use Rattle.ctw_ops.specs.Forms.{is_load, is_store}
+use Rattle.ctw_ops.specs.Numeric.{num_sig_of, leaks}
 use Rattle.ctw_ops.specs.Code.{Leaf, Unreachable, Nop, Br, BrIf, BrTable, Return, Call, CallIndirect, Drop, Select, LocalGet, LocalSet, LocalTee, GlobalGet, GlobalSet, Load, Store, MemorySize, MemoryGrow, Const, Numeric, Classify, Declassify}
 use Rattle.ctw_ops.specs.Typing.{Context, optional, i32, operands}
 use Rattle.ctw_ops.specs.Segments.{and_then}
@@ -22,11 +24,6 @@ IsExactTest same = (a b : _) → (same a b ≡ true) ↔ (a ≡ b)
 abbrev pub when : {A : Type 0} → Bool → Option A → Option A
 when true answer = answer
 when false answer = None
-
-abbrev pub same_width : Width → Width → Bool
-same_width W32 W32 = true
-same_width W64 W64 = true
-same_width _ _ = false
 
 -- an untrusted function may not call a trusted one
 abbrev pub may_call : Trust → Trust → Bool
@@ -141,11 +138,14 @@ module _ {S : Type 0} (same : S → S → Bool) where
   step C (LocalTee x) o = and_then (slice_get C.locals x) (λ t. moved (t ∷ []) (t ∷ []) o)
   step C (GlobalGet x) o = and_then (slice_get C.globals x) (λ g. moved [] (g.value ∷ []) o)
   step C (GlobalSet x) o = and_then (slice_get C.globals x) (λ g. when g.mutable (moved (g.value ∷ []) [] o))
-  step C (Load w l bytes signed align offset) o = when (is_tag l C.memory) (when (nat_le (2 ^ align) bytes) (moved (i32 C ∷ []) (value_type w l ∷ []) o))
-  step C (Store w l bytes align offset) o = when (is_tag l C.memory) (when (nat_le (2 ^ align) bytes) (moved (i32 C ∷ value_type w l ∷ []) [] o))
+  step C (Load w l bytes signed align offset) o =
+      when (is_load w bytes signed) (when (is_tag l C.memory) (when (nat_le (2 ^ align) bytes) (moved (i32 C ∷ []) (value_type w l ∷ []) o)))
+  step C (Store w l bytes align offset) o =
+      when (is_store w bytes) (when (is_tag l C.memory) (when (nat_le (2 ^ align) bytes) (moved (i32 C ∷ value_type w l ∷ []) [] o)))
   step C MemorySize o = and_then C.memory (λ l. moved [] (i32 C ∷ []) o)
   step C MemoryGrow o = and_then C.memory (λ l. moved (i32 C ∷ []) (i32 C ∷ []) o)
-  step C (Const w l bits) o = moved [] (value_type w l ∷ []) o
-  step C (Numeric op l) o = when (not (is_timed op) || same l C.public) (moved (operands (num_sig_of op) l) (value_type (num_sig_of op).result l ∷ []) o)
+  step C (Const w l bits) o = when (nat_lt bits (2 ^ bit_width w)) (moved [] (value_type w l ∷ []) o)
+  step C (Numeric op l) o =
+      and_then (num_sig_of op) (λ sig. when (not (leaks op C.profile) || same l C.public) (moved (operands sig l) (value_type sig.result l ∷ []) o))
   step C (Classify w) o = moved (value_type w C.public ∷ []) (value_type w C.secret ∷ []) o
   step C (Declassify w) o = when (is_trusted C.trust) (moved (value_type w C.secret ∷ []) (value_type w C.public ∷ []) o)

@@ -7,6 +7,3 @@ mod stack;
 
 pub use slot::{Slot, Underflow};
 pub use stack::Stack;
-
-#[cfg(test)]
-mod tests;

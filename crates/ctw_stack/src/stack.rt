@@ -50,7 +50,16 @@ impl<S: Copy + Drop> Stack<S> {
         }
     }
 
+    /// Closes all blocks.
+    pub fn clear(&mut self)
+        ensures { self.new ≡ [] }
+    {
+        self.slots.clear();
+        self.blocks.clear();
+    }
+
     /// Puts a slot on the innermost block. An error, for want of memory, leaves the stack as it was.
+    #[inline(always)]
     pub fn push(&mut self, slot: Slot<S>) -> Result<(), AllocError>
         requires open { 0 < length self.old }
         requires few { slot_count self.old < 2 ^ 32 - 1 }
@@ -61,6 +70,7 @@ impl<S: Copy + Drop> Stack<S> {
     }
 
     /// Takes the last slot of the innermost block. Where that block has none, the answer is `Unknown` in dead code, and else an underflow, which leaves the stack as it was.
+    #[inline(always)]
     pub fn pop(&mut self) -> Result<Slot<S>, Underflow>
         requires { 0 < length self.old }
         ensures { MatchResult result (λ slot. after_pop self.old ≡ Some (record { slot = slot; blocks = self.new })) (λ _. (after_pop self.old ≡ None) × (self.new ≡ self.old)) }

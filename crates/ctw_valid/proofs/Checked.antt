@@ -63,7 +63,7 @@ module _ (m : Module Label) (function : Function Label) where
   at_is (Err e) h = at_of e h
 
   applies_of : (e : BodyFault) → (e ≢ NoMemory → fault_from (context_of m function) 0 (opcodes function.body) (outermost (context_of m function)) ≡ Some e) → Applies (context_of m function) function.body e
-  applies_of NoMemory h = tt
+  applies_of NoMemory h = record { says = tt; first = tt }
   applies_of (Index at) h = applies (context_of m function) refl function.body (Index at) (h (λ q. cc))
   applies_of (Align at) h = applies (context_of m function) refl function.body (Align at) (h (λ q. cc))
   applies_of (Immutable at) h = applies (context_of m function) refl function.body (Immutable at) (h (λ q. cc))

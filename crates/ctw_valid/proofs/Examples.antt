@@ -1,13 +1,14 @@
 -- The first faults of small bodies, by computation.
 use Rattle.std.proofs.Common.{◌≡◌, Bool, true, false, List, [], ◌∷◌, Option, Some, None, map, refl}
 use Rattle.ctw_ops.specs.declared.types.Width.TheVariants.{W32, W64}
+use Rattle.ctw_ops.specs.declared.numeric.Profile.TheVariants as profiles
 use Rattle.ctw_ops.specs.declared.types.Label.{Label}
 use Rattle.ctw_ops.specs.declared.types.Label.TheVariants.{Public, Secret}
 use Rattle.ctw_ops.specs.declared.types.Trust.{Trust as TrustOf}
 use Rattle.ctw_ops.specs.declared.types.Trust.TheVariants.{Untrusted, Trusted}
 use Rattle.ctw_ops.specs.declared.fault.SecretRule.TheVariants.{Condition, TableIndex, CallIndex, Address, Divide, GrowSize}
 use Rattle.ctw_ops.specs.Types.{ValueType, FunctionType, value_type}
-use Rattle.ctw_ops.specs.Numeric.{num_sig_of, is_timed}
+use Rattle.ctw_ops.specs.Numeric.{num_sig_of, is_timed, is_product, leaks}
 use Rattle.ctw_ops.specs.Typing.{Context}
 use Rattle.ctw_ops.specs.Code.{Leaf, Unreachable, Nop, Br, BrIf, BrTable, Return, Call, CallIndirect, Drop, Select, LocalGet, LocalSet, LocalTee, GlobalGet, GlobalSet, Load, Store, MemorySize, MemoryGrow, Const, Numeric, Classify, Declassify, Code, Stop, Then, Block, Loop, If, IfElse, straight, opcodes}
 use Rattle.ctw_stack.specs.Pass.{outermost}
@@ -41,6 +42,7 @@ own_context memory table trust result = record {
   labels = result ∷ [];
   public = Public;
   secret = Secret;
+  profile = profiles.Divide;
 }
 
 -- an untrusted function without a result, in a module with a public memory and a table
@@ -91,7 +93,7 @@ good : first_faults plain (
     straight (Unreachable ∷ Select Public ∷ Drop ∷ []) ∷
     straight (Return ∷ Numeric 0x6D Public ∷ LocalSet 0 ∷ Call 3 ∷ Drop ∷ []) ∷
     []) ≡ None ∷ None ∷ None ∷ None ∷ None ∷ None ∷ None ∷ None ∷ None ∷ None ∷ None ∷ None ∷ []
-unfolding num_sig_of is_timed
+unfolding num_sig_of is_timed is_product leaks
 good = refl
 
 -- ---- secrets
@@ -115,7 +117,7 @@ secrets : first_faults plain (
     Some (SecretPlace 2 Condition) ∷ Some (SecretPlace 1 Condition) ∷ Some (SecretPlace 1 Condition) ∷ Some (SecretPlace 1 TableIndex) ∷ Some (SecretPlace 1 CallIndex) ∷
     Some (SecretPlace 1 Address) ∷ Some (SecretPlace 1 Address) ∷ Some (SecretPlace 2 Address) ∷ Some (SecretPlace 1 GrowSize) ∷ Some (SecretPlace 0 Divide) ∷
     Some (SecretPlace 3 Condition) ∷ Some (SecretPlace 3 Address) ∷ Some (SecretPlace 2 Condition) ∷ Some (SecretPlace 1 Divide) ∷ []
-unfolding num_sig_of is_timed
+unfolding num_sig_of is_timed is_product leaks
 secrets = refl
 
 -- ---- types
@@ -166,5 +168,5 @@ others = refl
 
 -- a trusted function gives back the lowest bit of a secret
 trusted : first_faults (own_context None false Trusted (Some i32)) (straight (LocalGet 1 ∷ s32_const ∷ Numeric 0x71 Secret ∷ Declassify W32 ∷ []) ∷ []) ≡ None ∷ []
-unfolding num_sig_of is_timed
+unfolding num_sig_of is_timed is_product leaks
 trusted = refl

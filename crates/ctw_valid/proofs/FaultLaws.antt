@@ -5,8 +5,9 @@ use Rattle.std.proofs.Math.Seq.{take-append_seam}
 use Rattle.ctw_ops.specs.declared.types.Label.{Label}
 use Rattle.ctw_ops.specs.declared.types.Label.TheVariants.{Public, Secret}
 use Rattle.ctw_ops.specs.declared.fault.SecretRule.{SecretRule}
-use Rattle.ctw_ops.specs.declared.fault.SecretRule.TheVariants.{Divide}
-use Rattle.ctw_ops.specs.Numeric.{is_timed}
+use Rattle.ctw_ops.specs.declared.fault.SecretRule.TheVariants.{Condition, TableIndex, CallIndex, Address, Divide, GrowSize}
+use Rattle.ctw_ops.specs.declared.numeric.Profile.{Profile}
+use Rattle.ctw_ops.specs.Numeric.{leaks}
 use Rattle.ctw_ops.specs.Code.{Leaf, Unreachable, Nop, Br, BrIf, BrTable, Return, Call, CallIndirect, Drop, Select, LocalGet, LocalSet, LocalTee, GlobalGet, GlobalSet, Load, Store, MemorySize, MemoryGrow, Const, Numeric, Classify, Declassify, Code, Op, Plain, Opens, Closes, opcodes}
 use Rattle.ctw_ops.specs.Typing.{Context, Typed, optional}
 use Rattle.ctw_ops.specs.Segments.{and_then}
@@ -25,7 +26,7 @@ use Rattle.ctw_stack.proofs.StopLaws.{stops_where_refused, stops_once}
 use Rattle.ctw_valid.specs.declared.fault.BodyFault.{BodyFault}
 use Rattle.ctw_valid.specs.declared.fault.BodyFault.TheVariants.{Index, Align, Immutable, Trust, SecretPlace, WrongType, NoMemory}
 use Rattle.ctw_valid.specs.Faults.{same_label, is_there, is_aligned, is_mutable, is_allowed, Guarded, guards, guarded, is_secret, guarded_secret, broken_rule, by_type, leaf_or, kind_of, slots_of, unless_refused, fault_from}
-use Rattle.ctw_valid.specs.Answers.{place_of, NamesTheStop, IsSecretDivision, HasSecretAt, BreaksRule, Fails, Applies}
+use Rattle.ctw_valid.specs.Answers.{place_of, NamesTheStop, IsSecretLeak, HasSecretAt, BreaksRule, Fails, NamesNothing, Applies}
 use Rattle.ctw_valid.proofs.Prefixes.{level_open}
 
 pub same_label_exact : IsExactTest same_label
@@ -127,9 +128,9 @@ leaf_place C leaf at other p =
     test_place (not (is_there C leaf)) _ _ at refl (test_place (not (is_aligned leaf)) _ _ at refl (test_place (not (is_mutable C leaf)) _ _ at refl (test_place (not (is_allowed C leaf)) _ _ at refl p)))
 
 pub kind_place : (C : Context Label) (op : Op Label) (at : ℕ) (slots : List (Slot Label)) → place_of (kind_of C op at slots) ≡ Some at
-kind_place C (Plain leaf) at slots = leaf_place C leaf at (by_type at (broken_rule (Plain leaf) slots)) (by_type_place at (broken_rule (Plain leaf) slots))
-kind_place C (Opens shape t) at slots = by_type_place at (broken_rule (Opens shape t) slots)
-kind_place C (Closes closer) at slots = by_type_place at (broken_rule (Closes closer) slots)
+kind_place C (Plain leaf) at slots = leaf_place C leaf at (by_type at (broken_rule C.profile (Plain leaf) slots)) (by_type_place at (broken_rule C.profile (Plain leaf) slots))
+kind_place C (Opens shape t) at slots = by_type_place at (broken_rule C.profile (Opens shape t) slots)
+kind_place C (Closes closer) at slots = by_type_place at (broken_rule C.profile (Closes closer) slots)
 
 -- what a kind says of its opcode and of the rule that is broken
 abbrev Tells : Context Label → Op Label → Option SecretRule → BodyFault → Type 0
@@ -149,16 +150,54 @@ test_tells : (C : Context Label) (op : Op Label) (r : Option SecretRule) (b : Bo
 test_tells C op r true x y p q = q
 test_tells C op r false x y p q = p refl
 
-kind_tells : (C : Context Label) (op : Op Label) (at : ℕ) (slots : List (Slot Label)) → Tells C op (broken_rule op slots) (kind_of C op at slots)
+kind_tells : (C : Context Label) (op : Op Label) (at : ℕ) (slots : List (Slot Label)) → Tells C op (broken_rule C.profile op slots) (kind_of C op at slots)
 kind_tells C (Plain leaf) at slots =
     let op : Op Label = Plain leaf in
-    let r : Option SecretRule = broken_rule op slots in
+    let r : Option SecretRule = broken_rule C.profile op slots in
     test_tells C op r (is_there C leaf) _ _ (λ e. (leaf, refl, e))
     (test_tells C op r (is_aligned leaf) _ _ (λ e. (leaf, refl, e))
     (test_tells C op r (is_mutable C leaf) _ _ (λ e. (leaf, refl, e))
     (test_tells C op r (is_allowed C leaf) _ _ (λ e. (leaf, refl, e)) (by_type_tells C op at r))))
-kind_tells C (Opens shape t) at slots = by_type_tells C (Opens shape t) at (broken_rule (Opens shape t) slots)
-kind_tells C (Closes closer) at slots = by_type_tells C (Closes closer) at (broken_rule (Closes closer) slots)
+kind_tells C (Opens shape t) at slots = by_type_tells C (Opens shape t) at (broken_rule C.profile (Opens shape t) slots)
+kind_tells C (Closes closer) at slots = by_type_tells C (Closes closer) at (broken_rule C.profile (Closes closer) slots)
+
+-- what holds of an opcode to which no kind before a fault's own applies
+abbrev Passed : Context Label → Leaf Label → BodyFault → Type 0
+Passed C leaf (Index at) = Unit {0}
+Passed C leaf (Align at) = is_there C leaf ≡ true
+Passed C leaf (Immutable at) = (is_there C leaf ≡ true) × (is_aligned leaf ≡ true)
+Passed C leaf (Trust at) = (is_there C leaf ≡ true) × (is_aligned leaf ≡ true) × (is_mutable C leaf ≡ true)
+Passed C leaf (SecretPlace at rule) = (is_there C leaf ≡ true) × (is_aligned leaf ≡ true) × (is_mutable C leaf ≡ true) × (is_allowed C leaf ≡ true)
+Passed C leaf (WrongType at) = (is_there C leaf ≡ true) × (is_aligned leaf ≡ true) × (is_mutable C leaf ≡ true) × (is_allowed C leaf ≡ true)
+Passed C leaf NoMemory = Unit {0}
+
+by_type_passed : (C : Context Label) (leaf : Leaf Label) (at : ℕ) (r : Option SecretRule) → (is_there C leaf ≡ true) × (is_aligned leaf ≡ true) × (is_mutable C leaf ≡ true) × (is_allowed C leaf ≡ true) → Passed C leaf (by_type at r)
+by_type_passed C leaf at None h = h
+by_type_passed C leaf at (Some rule) h = h
+
+leaf_passed : (C : Context Label) (leaf : Leaf Label) (at : ℕ) (r : Option SecretRule) → Passed C leaf (leaf_or C leaf at (by_type at r))
+leaf_passed C leaf at r = there (is_there C leaf) refl
+  where
+    allowed : is_there C leaf ≡ true → is_aligned leaf ≡ true → is_mutable C leaf ≡ true → (b : Bool) → is_allowed C leaf ≡ b → Passed C leaf (if not b then Trust at else by_type at r)
+    allowed t a m true e = by_type_passed C leaf at r (t, a, m, e)
+    allowed t a m false e = (t, a, m)
+
+    mutable : is_there C leaf ≡ true → is_aligned leaf ≡ true → (b : Bool) → is_mutable C leaf ≡ b → Passed C leaf (if not b then Immutable at else if not (is_allowed C leaf) then Trust at else by_type at r)
+    mutable t a true e = allowed t a e (is_allowed C leaf) refl
+    mutable t a false e = (t, a)
+
+    aligned : is_there C leaf ≡ true → (b : Bool) → is_aligned leaf ≡ b
+        → Passed C leaf (if not b then Align at else if not (is_mutable C leaf) then Immutable at else if not (is_allowed C leaf) then Trust at else by_type at r)
+    aligned t true e = mutable t e (is_mutable C leaf) refl
+    aligned t false e = t
+
+    there : (b : Bool) → is_there C leaf ≡ b
+        → Passed C leaf (if not b then Index at else if not (is_aligned leaf) then Align at else if not (is_mutable C leaf) then Immutable at else if not (is_allowed C leaf) then Trust at else by_type at r)
+    there true e = aligned e (is_aligned leaf) refl
+    there false e = tt
+
+kind_passed : (C : Context Label) (op : Op Label) (at : ℕ) (slots : List (Slot Label)) (leaf : Leaf Label) → op ≡ Plain leaf → Passed C leaf (kind_of C op at slots)
+kind_passed C op at slots leaf e = subst (λ o. Passed C leaf (kind_of C o at slots)) (sym e) (leaf_passed C leaf at (broken_rule C.profile (Plain leaf) slots))
 
 -- labels don't matter for these kinds
 mutable_within : (C : Context Label) (vs : List (Level Label)) (leaf : Leaf Label) → is_mutable C leaf ≡ is_mutable (within C vs) leaf
@@ -214,32 +253,32 @@ allowed_within C vs (Declassify w) = refl
 -- ---- broken rules
 
 -- an operation has a rule of its own, and any other opcode one for a place of its operands
-broken_view : (op : Op Label) (slots : List (Slot Label)) → (broken_rule op slots ≡ guarded_secret slots (guarded op)) ⊎ ((n : ℕ) × (l : Label) × (op ≡ Plain (Numeric n l)))
-broken_view (Plain Unreachable) slots = inl refl
-broken_view (Plain Nop) slots = inl refl
-broken_view (Plain (Br k)) slots = inl refl
-broken_view (Plain (BrIf k)) slots = inl refl
-broken_view (Plain (BrTable ks k)) slots = inl refl
-broken_view (Plain Return) slots = inl refl
-broken_view (Plain (Call f)) slots = inl refl
-broken_view (Plain (CallIndirect y)) slots = inl refl
-broken_view (Plain Drop) slots = inl refl
-broken_view (Plain (Select l)) slots = inl refl
-broken_view (Plain (LocalGet x)) slots = inl refl
-broken_view (Plain (LocalSet x)) slots = inl refl
-broken_view (Plain (LocalTee x)) slots = inl refl
-broken_view (Plain (GlobalGet x)) slots = inl refl
-broken_view (Plain (GlobalSet x)) slots = inl refl
-broken_view (Plain (Load w l n b al off)) slots = inl refl
-broken_view (Plain (Store w l n al off)) slots = inl refl
-broken_view (Plain MemorySize) slots = inl refl
-broken_view (Plain MemoryGrow) slots = inl refl
-broken_view (Plain (Const w l n)) slots = inl refl
-broken_view (Plain (Numeric n l)) slots = inr (n, l, refl)
-broken_view (Plain (Classify w)) slots = inl refl
-broken_view (Plain (Declassify w)) slots = inl refl
-broken_view (Opens shape t) slots = inl refl
-broken_view (Closes closer) slots = inl refl
+broken_view : (profile : Profile) (op : Op Label) (slots : List (Slot Label)) → (broken_rule profile op slots ≡ guarded_secret slots (guarded op)) ⊎ ((n : ℕ) × (l : Label) × (op ≡ Plain (Numeric n l)))
+broken_view profile (Plain Unreachable) slots = inl refl
+broken_view profile (Plain Nop) slots = inl refl
+broken_view profile (Plain (Br k)) slots = inl refl
+broken_view profile (Plain (BrIf k)) slots = inl refl
+broken_view profile (Plain (BrTable ks k)) slots = inl refl
+broken_view profile (Plain Return) slots = inl refl
+broken_view profile (Plain (Call f)) slots = inl refl
+broken_view profile (Plain (CallIndirect y)) slots = inl refl
+broken_view profile (Plain Drop) slots = inl refl
+broken_view profile (Plain (Select l)) slots = inl refl
+broken_view profile (Plain (LocalGet x)) slots = inl refl
+broken_view profile (Plain (LocalSet x)) slots = inl refl
+broken_view profile (Plain (LocalTee x)) slots = inl refl
+broken_view profile (Plain (GlobalGet x)) slots = inl refl
+broken_view profile (Plain (GlobalSet x)) slots = inl refl
+broken_view profile (Plain (Load w l n b al off)) slots = inl refl
+broken_view profile (Plain (Store w l n al off)) slots = inl refl
+broken_view profile (Plain MemorySize) slots = inl refl
+broken_view profile (Plain MemoryGrow) slots = inl refl
+broken_view profile (Plain (Const w l n)) slots = inl refl
+broken_view profile (Plain (Numeric n l)) slots = inr (n, l, refl)
+broken_view profile (Plain (Classify w)) slots = inl refl
+broken_view profile (Plain (Declassify w)) slots = inl refl
+broken_view profile (Opens shape t) slots = inl refl
+broken_view profile (Closes closer) slots = inl refl
 
 secret_slot : (x : Slot Label) → (is_secret (Some x) ≡ true) ↔ IsTagged Secret x
 secret_slot (Known w l) = same_label_exact l Secret
@@ -266,12 +305,12 @@ module _ (C : Context Label) (own : C.labels ≡ C.result ∷ []) (code : Code L
   tags place = tag_place_law same_label same_label_exact C own Secret Public public_secret code at place v outer ran
 
   abbrev Broken : SecretRule → Type 0
-  Broken rule = ((rule ≡ Divide) × IsSecretDivision op) ⊎ ((place : ℕ) × (guarded op ≡ guards rule place) × HasSecretAt C code at place)
+  Broken rule = ((rule ≡ Divide) × IsSecretLeak C.profile op) ⊎ ((place : ℕ) × (guarded op ≡ guards rule place) × HasSecretAt C code at place)
 
-  divides : (n : ℕ) (l : Label) (rule : SecretRule) → op ≡ Plain (Numeric n l) → (if is_timed n && same_label l Secret then Some Divide else None) ≡ Some rule → (rule ≡ Divide) × IsSecretDivision op
-  divides n l rule e b = by (is_timed n) l refl e b
+  divides : (n : ℕ) (l : Label) (rule : SecretRule) → op ≡ Plain (Numeric n l) → (if leaks n C.profile && same_label l Secret then Some Divide else None) ≡ Some rule → (rule ≡ Divide) × IsSecretLeak C.profile op
+  divides n l rule e b = by (leaks n C.profile) l refl e b
     where
-      by : (timed : Bool) (m : Label) → is_timed n ≡ timed → op ≡ Plain (Numeric n m) → (if timed && same_label m Secret then Some Divide else None) ≡ Some rule → (rule ≡ Divide) × IsSecretDivision op
+      by : (timed : Bool) (m : Label) → leaks n C.profile ≡ timed → op ≡ Plain (Numeric n m) → (if timed && same_label m Secret then Some Divide else None) ≡ Some rule → (rule ≡ Divide) × IsSecretLeak C.profile op
       by true Secret q p h = (sym (some_same h), (n, p, q))
       by true Public q p h = none_some h
       by false m q p h = none_some h
@@ -285,34 +324,34 @@ module _ (C : Context Label) (own : C.labels ≡ C.result ∷ []) (code : Code L
       by false q k = none_some k
 
   -- a rule is broken just where the pass says so
-  pub breaks : (rule : SecretRule) → broken_rule op v.block.operands.slots ≡ Some rule → BreaksRule C code at rule
-  breaks rule e = (op, here, by (broken_view op v.block.operands.slots))
+  pub breaks : (rule : SecretRule) → broken_rule C.profile op v.block.operands.slots ≡ Some rule → BreaksRule C code at rule
+  breaks rule e = (op, here, by (broken_view C.profile op v.block.operands.slots))
     where
-      by : (broken_rule op v.block.operands.slots ≡ guarded_secret v.block.operands.slots (guarded op)) ⊎ ((n : ℕ) × (l : Label) × (op ≡ Plain (Numeric n l))) → Broken rule
+      by : (broken_rule C.profile op v.block.operands.slots ≡ guarded_secret v.block.operands.slots (guarded op)) ⊎ ((n : ℕ) × (l : Label) × (op ≡ Plain (Numeric n l))) → Broken rule
       by (inl q) = guards_it (guarded op) rule refl (sym q ∙ e)
-      by (inr i) = inl (divides i.0 i.1 rule i.2 (sym (ap (λ z. broken_rule z v.block.operands.slots) i.2) ∙ e))
+      by (inr i) = inl (divides i.0 i.1 rule i.2 (sym (ap (λ z. broken_rule C.profile z v.block.operands.slots) i.2) ∙ e))
 
-  broken_division : IsSecretDivision op → broken_rule op v.block.operands.slots ≡ Some Divide
-  broken_division i = ap (λ z. broken_rule z v.block.operands.slots) i.1 ∙ ap (λ b. if b && true then Some Divide else None) i.2
+  broken_leak : IsSecretLeak C.profile op → broken_rule C.profile op v.block.operands.slots ≡ Some Divide
+  broken_leak i = ap (λ z. broken_rule C.profile z v.block.operands.slots) i.1 ∙ ap (λ b. if b && true then Some Divide else None) i.2
 
-  broken_guard : (rule : SecretRule) (place : ℕ) → guarded op ≡ guards rule place → HasSecretAt C code at place → broken_rule op v.block.operands.slots ≡ Some rule
-  broken_guard rule place e h = by (broken_view op v.block.operands.slots)
+  broken_guard : (rule : SecretRule) (place : ℕ) → guarded op ≡ guards rule place → HasSecretAt C code at place → broken_rule C.profile op v.block.operands.slots ≡ Some rule
+  broken_guard rule place e h = by (broken_view C.profile op v.block.operands.slots)
     where
       secret : is_secret (slice_get v.block.operands.slots place) ≡ true
       secret = (secret_at v.block.operands.slots place).1 ((tags place).1 h)
 
-      by : (broken_rule op v.block.operands.slots ≡ guarded_secret v.block.operands.slots (guarded op)) ⊎ ((n : ℕ) × (l : Label) × (op ≡ Plain (Numeric n l))) → broken_rule op v.block.operands.slots ≡ Some rule
+      by : (broken_rule C.profile op v.block.operands.slots ≡ guarded_secret v.block.operands.slots (guarded op)) ⊎ ((n : ℕ) × (l : Label) × (op ≡ Plain (Numeric n l))) → broken_rule C.profile op v.block.operands.slots ≡ Some rule
       by (inl q) = q ∙ ap (guarded_secret v.block.operands.slots) e ∙ ap (λ b. if b then Some rule else None) secret
       by (inr i) = none_some (sym (ap guarded i.2) ∙ e)
 
-  pub unbroken : broken_rule op v.block.operands.slots ≡ None → (rule : SecretRule) → BreaksRule C code at rule → ⊥
+  pub unbroken : broken_rule C.profile op v.block.operands.slots ≡ None → (rule : SecretRule) → BreaksRule C code at rule → ⊥
   unbroken n rule b = by b.2
     where
       one : b.0 ≡ op
       one = some_same (sym b.1 ∙ here)
 
-      by : ((rule ≡ Divide) × IsSecretDivision b.0) ⊎ ((place : ℕ) × (guarded b.0 ≡ guards rule place) × HasSecretAt C code at place) → ⊥
-      by (inl i) = none_some (sym n ∙ broken_division (subst IsSecretDivision one i.1))
+      by : ((rule ≡ Divide) × IsSecretLeak C.profile b.0) ⊎ ((place : ℕ) × (guarded b.0 ≡ guards rule place) × HasSecretAt C code at place) → ⊥
+      by (inl i) = none_some (sym n ∙ broken_leak (subst (IsSecretLeak C.profile) one i.1))
       by (inr i) = none_some (sym n ∙ broken_guard rule i.0 (sym (ap guarded one) ∙ i.1) i.2)
 
 -- ---- all together
@@ -342,33 +381,89 @@ module _ (C : Context Label) (own : C.labels ≡ C.result ∷ []) (code : Code L
   seam [] behind op = refl
   seam (b ∷ before) behind op = seam before behind op
 
-  -- its kind applies to that opcode
-  pub applies : Applies C code fault
-  applies = by_levels it.now it.ran told
+  kept : take (length it.before) (opcodes code) ≡ it.before
+  kept = ap (take (length it.before)) it.all ∙ take-append_seam it.before (it.op ∷ it.behind)
+
+  here : slice_get (opcodes code) (length it.before) ≡ Some it.op
+  here = ap (λ z. slice_get z (length it.before)) it.all ∙ seam it.before it.behind it.op
+
+  told : Tells (within C it.now) it.op (broken_rule C.profile it.op (slots_of it.now)) fault
+  told = subst (Tells (within C it.now) it.op (broken_rule C.profile it.op (slots_of it.now))) (sym it.is) (kind_tells (within C it.now) it.op (0 + length it.before) (slots_of it.now))
+
+  passed_kinds : (leaf : Leaf Label) → it.op ≡ Plain leaf → Passed (within C it.now) leaf fault
+  passed_kinds leaf e = subst (Passed (within C it.now) leaf) (sym it.is) (kind_passed (within C it.now) it.op (0 + length it.before) (slots_of it.now) leaf e)
+
+  fails : (test : Leaf Label → Bool) (at : ℕ) → Some at ≡ Some (length it.before) → (leaf : Leaf Label) → it.op ≡ Plain leaf → test leaf ≡ false → Fails test code at
+  fails test at p leaf q e = (leaf, ap (slice_get (opcodes code)) (some_same p) ∙ here ∙ ap Some q, e)
+
+  -- a test that the opcode passes doesn't fail
+  holds : (test : Leaf Label → Bool) (at : ℕ) → Some at ≡ Some (length it.before) → ((leaf : Leaf Label) → it.op ≡ Plain leaf → test leaf ≡ true) → Fails test code at → ⊥
+  holds test at p h f = true_false (sym (h f.0 (some_same (sym here ∙ ap (slice_get (opcodes code)) (sym (some_same p)) ∙ f.1))) ∙ f.2)
     where
-      kept : take (length it.before) (opcodes code) ≡ it.before
-      kept = ap (take (length it.before)) it.all ∙ take-append_seam it.before (it.op ∷ it.behind)
+      true_false : true ≡ false → ⊥
+      true_false q = cc
 
-      here : slice_get (opcodes code) (length it.before) ≡ Some it.op
-      here = ap (λ z. slice_get z (length it.before)) it.all ∙ seam it.before it.behind it.op
+  named : (v : Level Label) (outer : List (Level Label)) (at : ℕ) → Some at ≡ Some (length it.before) → run same_label C (take (length it.before) (opcodes code)) (outermost C) ≡ Some (v ∷ outer)
+      → ((leaf : Leaf Label) → it.op ≡ Plain leaf → is_there (within C (v ∷ outer)) leaf ≡ true) → NamesNothing C code at → ⊥
+  named v outer at p r h n =
+      let same : v ∷ outer ≡ n.0 = some_same (sym r ∙ ap (λ k. run same_label C (take k (opcodes code)) (outermost C)) (sym (some_same p)) ∙ n.1) in
+      holds (is_there (within C n.0)) at p (λ leaf e. subst (λ vs. is_there (within C vs) leaf ≡ true) same (h leaf e)) n.2
 
-      told : Tells (within C it.now) it.op (broken_rule it.op (slots_of it.now)) fault
-      told = subst (Tells (within C it.now) it.op (broken_rule it.op (slots_of it.now))) (sym it.is) (kind_tells (within C it.now) it.op (0 + length it.before) (slots_of it.now))
+  module _ (v : Level Label) (outer : List (Level Label)) (r : run same_label C (take (length it.before) (opcodes code)) (outermost C) ≡ Some (v ∷ outer)) where
+    mutable : (at : ℕ) → Some at ≡ Some (length it.before) → ((leaf : Leaf Label) → it.op ≡ Plain leaf → is_mutable (within C (v ∷ outer)) leaf ≡ true) → Fails (is_mutable C) code at → ⊥
+    mutable at p h = holds (is_mutable C) at p (λ leaf e. mutable_within C (v ∷ outer) leaf ∙ h leaf e)
 
-      fails : (test : Leaf Label → Bool) (at : ℕ) → Some at ≡ Some (length it.before) → (leaf : Leaf Label) → it.op ≡ Plain leaf → test leaf ≡ false → Fails test code at
-      fails test at p leaf q e = (leaf, ap (slice_get (opcodes code)) (some_same p) ∙ here ∙ ap Some q, e)
+    allowed : (at : ℕ) → Some at ≡ Some (length it.before) → ((leaf : Leaf Label) → it.op ≡ Plain leaf → is_allowed (within C (v ∷ outer)) leaf ≡ true) → Fails (is_allowed C) code at → ⊥
+    allowed at p h = holds (is_allowed C) at p (λ leaf e. allowed_within C (v ∷ outer) leaf ∙ h leaf e)
 
-      by_fault : (v : Level Label) (outer : List (Level Label)) → run same_label C (take (length it.before) (opcodes code)) (outermost C) ≡ Some (v ∷ outer) → (f : BodyFault) → place_of f ≡ Some (length it.before)
-          → Tells (within C (v ∷ outer)) it.op (broken_rule it.op v.block.operands.slots) f → Applies C code f
-      by_fault v outer r (SecretPlace at rule) p t = subst (λ z. BreaksRule C code z rule) (sym (some_same p)) (breaks C own code (length it.before) it.op v outer here r rule t)
-      by_fault v outer r (WrongType at) p t = λ rule b. unbroken C own code (length it.before) it.op v outer here r t rule (subst (λ z. BreaksRule C code z rule) (some_same p) b)
-      by_fault v outer r (Index at) p t =
-          (v ∷ outer, subst (λ z. run same_label C (take z (opcodes code)) (outermost C) ≡ Some (v ∷ outer)) (sym (some_same p)) r, fails (is_there (within C (v ∷ outer))) at p t.0 t.1 t.2)
-      by_fault v outer r (Align at) p t = fails is_aligned at p t.0 t.1 t.2
-      by_fault v outer r (Immutable at) p t = fails (is_mutable C) at p t.0 t.1 (mutable_within C (v ∷ outer) t.0 ∙ t.2)
-      by_fault v outer r (Trust at) p t = fails (is_allowed C) at p t.0 t.1 (allowed_within C (v ∷ outer) t.0 ∙ t.2)
-      by_fault v outer r NoMemory p t = tt
+    kept_rule : (at : ℕ) → Some at ≡ Some (length it.before) → broken_rule C.profile it.op v.block.operands.slots ≡ None → (rule : SecretRule) → BreaksRule C code at rule → ⊥
+    kept_rule at p t rule b = unbroken C own code (length it.before) it.op v outer here r t rule (subst (λ z. BreaksRule C code z rule) (some_same p) b)
 
-      by_levels : (now : List (Level Label)) → run same_label C it.before (outermost C) ≡ Some now → Tells (within C now) it.op (broken_rule it.op (slots_of now)) fault → Applies C code fault
-      by_levels [] r t = absurd (level_open same_label same_label_exact C own code it.before it.behind it.op it.all r)
-      by_levels (v ∷ outer) r t = by_fault v outer (ap (λ z. run same_label C z (outermost C)) kept ∙ r) fault at_is t
+    by_fault : (f : BodyFault) → place_of f ≡ Some (length it.before) → Tells (within C (v ∷ outer)) it.op (broken_rule C.profile it.op v.block.operands.slots) f
+        → ((leaf : Leaf Label) → it.op ≡ Plain leaf → Passed (within C (v ∷ outer)) leaf f) → Applies C code f
+    by_fault (Index at) p t h = record {
+      says = (v ∷ outer, subst (λ z. run same_label C (take z (opcodes code)) (outermost C) ≡ Some (v ∷ outer)) (sym (some_same p)) r, fails (is_there (within C (v ∷ outer))) at p t.0 t.1 t.2);
+      first = tt;
+    }
+    by_fault (Align at) p t h = record {
+      says = fails is_aligned at p t.0 t.1 t.2;
+      first = (named v outer at p r h, tt);
+    }
+    by_fault (Immutable at) p t h = record {
+      says = fails (is_mutable C) at p t.0 t.1 (mutable_within C (v ∷ outer) t.0 ∙ t.2);
+      first = (named v outer at p r (λ leaf e. (h leaf e).0), (holds is_aligned at p (λ leaf e. (h leaf e).1), tt));
+    }
+    by_fault (Trust at) p t h = record {
+      says = fails (is_allowed C) at p t.0 t.1 (allowed_within C (v ∷ outer) t.0 ∙ t.2);
+      first = (named v outer at p r (λ leaf e. (h leaf e).0), (holds is_aligned at p (λ leaf e. (h leaf e).1), (mutable at p (λ leaf e. (h leaf e).2), tt)));
+    }
+    by_fault (SecretPlace at rule) p t h = record {
+      says = subst (λ z. BreaksRule C code z rule) (sym (some_same p)) (breaks C own code (length it.before) it.op v outer here r rule t);
+      first = (named v outer at p r (λ leaf e. (h leaf e).0), (holds is_aligned at p (λ leaf e. (h leaf e).1), (mutable at p (λ leaf e. (h leaf e).2), (allowed at p (λ leaf e. (h leaf e).3), tt))));
+    }
+    by_fault (WrongType at) p t h = record {
+      says = tt;
+      first = (
+        named v outer at p r (λ leaf e. (h leaf e).0),
+        (
+          holds is_aligned at p (λ leaf e. (h leaf e).1),
+          (
+            mutable at p (λ leaf e. (h leaf e).2),
+            (
+              allowed at p (λ leaf e. (h leaf e).3),
+              (kept_rule at p t Condition, (kept_rule at p t TableIndex, (kept_rule at p t CallIndex, (kept_rule at p t Address, (kept_rule at p t Divide, (kept_rule at p t GrowSize, tt)))))),
+            ),
+          ),
+        ),
+      );
+    }
+    by_fault NoMemory p t h = none_some p
+
+  by_levels : (now : List (Level Label)) → run same_label C it.before (outermost C) ≡ Some now → Tells (within C now) it.op (broken_rule C.profile it.op (slots_of now)) fault
+      → ((leaf : Leaf Label) → it.op ≡ Plain leaf → Passed (within C now) leaf fault) → Applies C code fault
+  by_levels [] r t h = absurd (level_open same_label same_label_exact C own code it.before it.behind it.op it.all r)
+  by_levels (v ∷ outer) r t h = by_fault v outer (ap (λ z. run same_label C z (outermost C)) kept ∙ r) fault at_is t h
+
+  -- its kind applies to that opcode, and none before it does
+  pub applies : Applies C code fault
+  applies = by_levels it.now it.ran told passed_kinds

@@ -10,4 +10,3 @@ pub mod FaultLaws
 pub mod LoopLaws
 pub mod Checked
 mod Examples
-mod Sample

@@ -1,18 +1,19 @@
 -- Rows whose instructions take operands below a number.
-use Rattle.std.proofs.Common.{◌≡◌, ℕ, Bool, true, false, not, ◌<◌, ◌≤◌, ◌^◌, List, [], ◌∷◌, ◌++◌, Option, Some, None, slice_get, ◌⊎◌, inl, inr, refl, sym, ◌∙◌, ap, arith}
+use Rattle.std.proofs.Common.{◌≡◌, ℕ, Bool, true, false, not, ◌<◌, ◌≤◌, ◌^◌, List, [], ◌∷◌, ◌++◌, Option, Some, None, slice_get, ◌⊎◌, inl, inr, refl, sym, ◌∙◌, ap, subst, arith}
 use Rattle.std.specs.Prelude.{◌&&◌, ◌||◌, ◌==◌, nat_le, nat_lt, if◌then◌else◌, is_some}
 use Rattle.std.specs.List.{list_all}
 use Rattle.std.proofs.Math.Pow.{pow_mono}
-use Rattle.std.proofs.lemmas.Bool.{lt-leb, le-ltb}
+use Rattle.std.proofs.lemmas.Bool.{lt-leb, le-ltb, lt-ltb}
 use Rattle.ctw_ops.specs.declared.types.Label.{Label}
 use Rattle.ctw_ops.specs.declared.types.Label.TheVariants.{Public, Secret}
+use Rattle.ctw_ops.specs.declared.types.Width.{Width}
 use Rattle.ctw_ops.specs.declared.types.Width.TheVariants.{W32}
-use Rattle.ctw_ops.specs.declared.fault.SecretRule.TheVariants.{CallIndex, TableIndex}
-use Rattle.ctw_ops.specs.Types.{ValueType, FunctionType, value_type}
-use Rattle.ctw_ops.specs.Code.{BrTable, CallIndirect, Numeric, Plain}
-use Rattle.ctw_ops.specs.Numeric.{within, num_sig_of, is_timed}
+use Rattle.ctw_ops.specs.declared.fault.SecretRule.TheVariants.{CallIndex, TableIndex, Divide}
+use Rattle.ctw_ops.specs.Types.{ValueType, FunctionType, FitsWidth, value_type, bit_width}
+use Rattle.ctw_ops.specs.Code.{BrTable, CallIndirect, Const, Numeric, Plain}
+use Rattle.ctw_ops.specs.Numeric.{within, num_sig_of, leaks}
 use Rattle.ctw_ops.specs.declared.numeric.NumSig.{NumSig}
-use Rattle.ctw_ops.specs.Typing.{Context, optional}
+use Rattle.ctw_ops.specs.Typing.{Context, optional, operands}
 use Rattle.ctw_ops.specs.Segments.{and_then}
 use Rattle.ctw_stack.specs.declared.slot.Slot.{Slot}
 use Rattle.ctw_stack.specs.Operands.{Operands, killed}
@@ -26,7 +27,7 @@ use Rattle.ctw_valid.specs.declared.row.Row.TheVariants.{Moves}
 use Rattle.ctw_valid.specs.Rows.{types_in, IsRow, IsBarred}
 use Rattle.ctw_valid.specs.Scope.{types_of, table_of, scope}
 use Rattle.ctw_valid.specs.Tables.{fit}
-use Rattle.ctw_valid.specs.declared.fault.BodyFault.TheVariants.{Index}
+use Rattle.ctw_valid.specs.declared.fault.BodyFault.TheVariants.{Index, SecretPlace}
 use Rattle.ctw_valid.proofs.OnStack.{expects_append}
 
 -- what is taken last comes off first
@@ -56,10 +57,11 @@ wide_alignment align bytes le lt =
     le-ltb align 8 le ∙ sym (lt-leb (2 ^ align) bytes (omega (arith, more, lt)))
 
 -- an operation has one operand or two
-abbrev IsSmall : NumSig → Type 0
-IsSmall sig = (sig.arity ≡ 1) ⊎ (sig.arity ≡ 2)
+abbrev IsSmall : Option NumSig → Type 0
+IsSmall None = Unit {0}
+IsSmall (Some sig) = (sig.arity ≡ 1) ⊎ (sig.arity ≡ 2)
 
-either : (b : Bool) (x y : NumSig) → IsSmall x → IsSmall y → IsSmall (if b then x else y)
+either : (b : Bool) (x y : Option NumSig) → IsSmall x → IsSmall y → IsSmall (if b then x else y)
 either true x y h k = h
 either false x y h k = k
 
@@ -68,32 +70,56 @@ unfolding num_sig_of
 small op =
     either (op == 0x45) _ _ (inl refl) (either (within 0x46 0x4F op) _ _ (inr refl) (either (op == 0x50) _ _ (inl refl) (either (within 0x51 0x5A op) _ _ (inr refl)
     (either (within 0x67 0x69 op) _ _ (inl refl) (either (within 0x6A 0x78 op) _ _ (inr refl) (either (within 0x79 0x7B op) _ _ (inl refl) (either (within 0x7C 0x8A op) _ _ (inr refl)
-    (either (op == 0xA7) _ _ (inl refl) (inl refl)))))))))
+    (either (op == 0xA7) _ _ (inl refl) (either (within 0xAC 0xAD op) _ _ (inl refl) (either (within 0xC0 0xC1 op) _ _ (inl refl) (either (within 0xC2 0xC4 op) _ _ (inl refl) tt)))))))))))
 
-arity : (op : ℕ) → ((num_sig_of op).arity ≡ 2 → ⊥) → (num_sig_of op).arity ≡ 1
-arity op n = by (small op)
+arity : (op : ℕ) (sig : NumSig) → num_sig_of op ≡ Some sig → (sig.arity ≡ 2 → ⊥) → sig.arity ≡ 1
+arity op sig e n = by (subst IsSmall e (small op))
   where
-    by : IsSmall (num_sig_of op) → (num_sig_of op).arity ≡ 1
-    by (inl e) = e
-    by (inr e) = absurd (n e)
+    by : IsSmall (Some sig) → sig.arity ≡ 1
+    by (inl h) = h
+    by (inr h) = absurd (n h)
 
 free : (timed : Bool) (l : Label) → (timed && same_label l Secret) ≡ false → (not timed || same_label l Public) ≡ true
 free false l e = refl
 free true Public e = refl
 free true Secret e = absurd cc
 
-pub unary_row : (a : Around) (labels : List (Option (ValueType Label))) (op : ℕ) (l : Label) → (is_timed op && same_label l Secret) ≡ false → ((num_sig_of op).arity ≡ 2 → ⊥)
-    → IsRow (scope a labels) (Numeric op l) (Moves (record { first = One None; index = None; last = Some (value_type (num_sig_of op).operand l); fits = true; gives = Some (value_type (num_sig_of op).result l); ends = false }))
-unary_row a labels op l f n = record {
-  same = λ o. rw (free (is_timed op) l f, arity op n) refl;
+pub unary_row : (a : Around) (labels : List (Option (ValueType Label))) (op : ℕ) (sig : NumSig) (l : Label) → num_sig_of op ≡ Some sig → (leaks op a.profile && same_label l Secret) ≡ false → (sig.arity ≡ 2 → ⊥)
+    → IsRow (scope a labels) (Numeric op l) (Moves (record { first = One None; index = None; last = Some (value_type sig.operand l); fits = true; gives = Some (value_type sig.result l); ends = false }))
+unary_row a labels op sig l e f n = record {
+  same = λ o. rw (e, free (leaks op a.profile) l f, arity op sig e n) refl;
   kind = λ at slots. rw f refl;
 }
 
-pub binary_row : (a : Around) (labels : List (Option (ValueType Label))) (op : ℕ) (l : Label) → (is_timed op && same_label l Secret) ≡ false → (num_sig_of op).arity ≡ 2
-    → IsRow (scope a labels) (Numeric op l) (Moves (record { first = One (Some (value_type (num_sig_of op).operand l)); index = None; last = Some (value_type (num_sig_of op).operand l); fits = true; gives = Some (value_type (num_sig_of op).result l); ends = false }))
-binary_row a labels op l f two = record {
-  same = λ o. rw (free (is_timed op) l f, two) (moved_split (value_type (num_sig_of op).operand l ∷ []) (value_type (num_sig_of op).operand l ∷ []) (value_type (num_sig_of op).result l ∷ []) o);
+pub binary_row : (a : Around) (labels : List (Option (ValueType Label))) (op : ℕ) (sig : NumSig) (l : Label) → num_sig_of op ≡ Some sig → (leaks op a.profile && same_label l Secret) ≡ false → sig.arity ≡ 2
+    → IsRow (scope a labels) (Numeric op l) (Moves (record { first = One (Some (value_type sig.operand l)); index = None; last = Some (value_type sig.operand l); fits = true; gives = Some (value_type sig.result l); ends = false }))
+binary_row a labels op sig l e f two = record {
+  same = λ o. rw (e, free (leaks op a.profile) l f, two) (moved_split (value_type sig.operand l ∷ []) (value_type sig.operand l ∷ []) (value_type sig.result l ∷ []) o);
   kind = λ at slots. rw f refl;
+}
+
+-- an operation of secrets that leaks
+pub leaking_row : (a : Around) (labels : List (Option (ValueType Label))) (op at : ℕ) (l : Label) → (leaks op a.profile && same_label l Secret) ≡ true → IsBarred (scope a labels) (Numeric op l) at (SecretPlace at Divide)
+leaking_row a labels op at l e = record {
+  refused = λ o. refused (num_sig_of op) o;
+  kind = λ slots. rw e refl;
+}
+  where
+    barred : (leaking : Bool) (m : Label) → (leaking && same_label m Secret) ≡ true → (not leaking || same_label m Public) ≡ false
+    barred true Secret q = refl
+    barred true Public q = absurd cc
+    barred false m q = absurd cc
+
+    refused : (row : Option NumSig) (o : Operands Label) → and_then row (λ sig. when (not (leaks op a.profile) || same_label l Public) (moved same_label (operands sig l) (value_type sig.result l ∷ []) o)) ≡ None
+    refused None o = refl
+    refused (Some sig) o = rw (barred (leaks op a.profile) l e) refl
+
+-- a constant of its width
+pub constant_row : (C : Context Label) (w : Width) (l : Label) (bits : ℕ) → FitsWidth w bits
+    → IsRow C (Const w l bits) (Moves (record { first = One None; index = None; last = None; fits = true; gives = Some (value_type w l); ends = false }))
+constant_row C w l bits h = record {
+  same = λ o. rw (lt-ltb bits (2 ^ bit_width w) h) refl;
+  kind = λ at slots. refl;
 }
 
 -- what is known where all targets are there

@@ -10,7 +10,7 @@ use Rattle.ctw_ops.specs.Types.{ValueType, FunctionType, VariableType}
 use Rattle.ctw_ops.specs.Tree.{Module, Function, TypeEntry, imported_functions, memory_among, table_among, function_entries, global_types, function_types, no_function_type, type_named}
 use Rattle.ctw_ops.specs.Bodies.{context_of}
 use Rattle.ctw_ops.specs.Valid.{Names}
-use Rattle.ctw_module.specs.Trees.{tree}
+use Rattle.ctw_module.specs.Trees.{tree, view_module}
 use Rattle.ctw_module.specs.Lookup.{imported_count, function_named, local_types, locals_named}
 use Rattle.ctw_module.proofs.Params.{slice_get_right}
 use Rattle.ctw_module.proofs.LocalTypes.{locals_are}
@@ -94,10 +94,10 @@ own_entry m f function e =
         by true q s = absurd cc
         by false q s = s
 
-pub scope_is : (a : Around) (entry : ℕ) (t : FunctionType Label) → slice_get (function_entries (tree a.whole.now)) a.f ≡ Some entry → t ≡ type_named (tree a.whole.now) entry → a.trust ≡ t.trust → a.result ≡ t.result
-    → (function : Function Label) → function_named (tree a.whole.now) a.f ≡ Some function → scope_of_body a ≡ context_of (tree a.whole.now) function
+pub scope_is : (a : Around) (entry : ℕ) (t : FunctionType Label) → slice_get (function_entries (tree a.whole.now)) a.f ≡ Some entry → t ≡ type_named (tree a.whole.now) entry → a.trust ≡ t.trust → a.result ≡ t.result → a.profile ≡ a.whole.now.profile
+    → (function : Function Label) → function_named (tree a.whole.now) a.f ≡ Some function → scope_of_body a ≡ context_of (view_module a.whole.now) function
 unfolding types_of functions_of globals_of locals_of memory_of table_of
-scope_is a entry t s e tr re function n =
+scope_is a entry t s e tr re pr function n =
     let m : Module Label = tree a.whole.now in
     let q : entry ≡ function.type = some_same (sym s ∙ own_entry m a.f function n) in
     let w : t ≡ type_named m function.type = e ∙ ap (type_named m) q in
@@ -116,4 +116,5 @@ scope_is a entry t s e tr re function n =
       labels = result i ∷ [];
       public = Public;
       secret = Secret;
+      profile = pr i;
     }

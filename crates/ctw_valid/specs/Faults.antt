@@ -6,7 +6,9 @@ use Rattle.ctw_ops.specs.declared.types.Label.TheVariants.{Public, Secret}
 use Rattle.ctw_ops.specs.declared.fault.SecretRule.{SecretRule}
 use Rattle.ctw_ops.specs.declared.fault.SecretRule.TheVariants.{Condition, TableIndex, CallIndex, Address, Divide, GrowSize}
 use Rattle.ctw_ops.specs.Types.{FunctionType, VariableType}
-use Rattle.ctw_ops.specs.Numeric.{is_timed}
+use Rattle.ctw_ops.specs.declared.numeric.Profile.{Profile}
+use Rattle.ctw_ops.specs.Numeric.{leaks}
+pub use Rattle.ctw_ops.specs.Equal.{same_label}
 use Rattle.ctw_ops.specs.Code.{Leaf, Br, BrIf, BrTable, Call, CallIndirect, LocalGet, LocalSet, LocalTee, GlobalGet, GlobalSet, Load, Store, MemorySize, MemoryGrow, Numeric, Declassify, OfIf, Op, Plain, Opens, opcodes}
 use Rattle.ctw_ops.specs.Typing.{Context}
 use Rattle.ctw_ops.specs.Tree.{Module, Function}
@@ -17,11 +19,6 @@ use Rattle.ctw_stack.specs.Steps.{may_call, is_trusted}
 use Rattle.ctw_stack.specs.Pass.{Level, outermost, within, flat}
 use Rattle.ctw_valid.specs.declared.fault.BodyFault.{BodyFault}
 use Rattle.ctw_valid.specs.declared.fault.BodyFault.TheVariants.{Index, Align, Immutable, Trust, SecretPlace, WrongType}
-
-abbrev pub same_label : Label → Label → Bool
-same_label Public Public = true
-same_label Secret Secret = true
-same_label _ _ = false
 
 abbrev pub names : {A : Type 0} → List A → ℕ → Bool
 names things index = is_some (slice_get things index)
@@ -101,10 +98,10 @@ abbrev pub guarded_secret : List (Slot Label) → Option Guarded → Option Secr
 guarded_secret slots None = None
 guarded_secret slots (Some g) = if is_secret (slice_get slots g.place) then Some g.rule else None
 
--- the rule that a secret breaks, if one does: a secret division, or a secret at a guarded place
-abbrev pub broken_rule : Op Label → List (Slot Label) → Option SecretRule
-broken_rule (Plain (Numeric op l)) slots = if is_timed op && same_label l Secret then Some Divide else None
-broken_rule op slots = guarded_secret slots (guarded op)
+-- the rule that a secret breaks, if one does: a secret operation that leaks, or a secret at a guarded place
+abbrev pub broken_rule : Profile → Op Label → List (Slot Label) → Option SecretRule
+broken_rule profile (Plain (Numeric op l)) slots = if leaks op profile && same_label l Secret then Some Divide else None
+broken_rule profile op slots = guarded_secret slots (guarded op)
 
 -- ---- the first kind that applies
 
@@ -121,8 +118,8 @@ leaf_or C leaf at other =
     else other
 
 abbrev pub kind_of : Context Label → Op Label → ℕ → List (Slot Label) → BodyFault
-kind_of C (Plain leaf) at slots = leaf_or C leaf at (by_type at (broken_rule (Plain leaf) slots))
-kind_of C op at slots = by_type at (broken_rule op slots)
+kind_of C (Plain leaf) at slots = leaf_or C leaf at (by_type at (broken_rule C.profile (Plain leaf) slots))
+kind_of C op at slots = by_type at (broken_rule C.profile op slots)
 
 -- the slots of the innermost block
 abbrev pub slots_of : List (Level Label) → List (Slot Label)

@@ -41,6 +41,7 @@ scope a labels = record {
   labels = labels;
   public = Public;
   secret = Secret;
+  profile = a.profile;
 }
 
 -- inside the body alone

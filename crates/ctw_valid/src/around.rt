@@ -2,24 +2,29 @@ ghost use Rattle.std.specs.Prelude.{◌≡◌, ◌≤◌, ◌<◌, Some, length,
 ghost use Rattle.ctw_ops.specs.declared.types.Label.{Label};
 ghost use Rattle.ctw_ops.specs.Tree.{Function, function_entries};
 ghost use Rattle.ctw_ops.specs.Bodies.{context_of};
-ghost use Rattle.ctw_module.specs.Trees.{tree};
-ghost use Rattle.ctw_module.specs.Lookup.{imported_count, function_named};
+ghost use Rattle.ctw_module.specs.Trees.{tree, view_module};
+ghost use Rattle.ctw_module.specs.Lookup.{imported_count, function_named, locals_named};
 ghost use Rattle.ctw_valid.specs.Named.{AreTyped};
 
 use ctw_module::Module;
-use ctw_ops::{FuncType, GlobalType, Label, Trust, ValType};
+use ctw_ops::{FuncType, GlobalType, Label, Profile, Trust, ValType};
 
 /// What a defined function's body may name, besides its labels.
 #[derive(Drop)]
 pub struct Around<'a> {
     whole: &'a Module<'a>,
     f: u32,
+    /// How many locals there are.
+    locals: u32,
     /// The function's trust.
     pub trust: Trust,
     /// The type of the function's result.
     pub result: Option<ValType>,
+    /// Which operations may take no secret.
+    pub profile: Profile,
     ghost typed: { AreTyped (tree whole.now) },
     ghost defined: { imported_count (tree whole.now) ≤ f },
+    ghost counted: { locals ≡ length (locals_named (tree whole.now) f) },
     ghost there: { f < length (function_entries (tree whole.now)) },
 }
 
@@ -31,14 +36,16 @@ impl<'a> Around<'a> {
         requires typed { AreTyped (tree whole.now) }
         requires defined { imported_count (tree whole.now) ≤ f }
         requires there { f < length (function_entries (tree whole.now)) }
-        ensures { (function : Function Label) → function_named (tree whole.now) f ≡ Some function → scope_of_body result ≡ context_of (tree whole.now) function }
+        ensures { (function : Function Label) → function_named (tree whole.now) f ≡ Some function → scope_of_body result ≡ context_of (view_module whole.now) function }
     {
         let ty = whole.func_type(whole.type_of_func(f));
         Around {
             whole,
             f,
+            locals: whole.local_count(f),
             trust: ty.trust,
             result: ty.result,
+            profile: whole.profile(),
         }
     }
 
@@ -63,10 +70,11 @@ impl<'a> Around<'a> {
     }
 
     /// A local's type; None exactly where there is no such local.
+    #[inline(always)]
     pub fn local(&self, index: u32) -> Option<ValType>
         ensures { result ≡ slice_get (locals_of self.now) index }
     {
-        if index >= self.whole.local_count(self.f) {
+        if index >= self.locals {
             return None;
         }
         Some(self.whole.local(self.f, index))

@@ -4,7 +4,7 @@ ghost use Rattle.ctw_ops.specs.Code.{Code};
 ghost use Rattle.ctw_ops.specs.Tree.{Function, function_entries};
 ghost use Rattle.ctw_ops.specs.Bodies.{context_of, HasItsType};
 ghost use Rattle.ctw_flat.specs.Spelled.{IsBody};
-ghost use Rattle.ctw_module.specs.Trees.{tree};
+ghost use Rattle.ctw_module.specs.Trees.{tree, view_module};
 ghost use Rattle.ctw_module.specs.Lookup.{imported_count, function_named};
 ghost use Rattle.ctw_valid.specs.declared.fault.BodyFault.TheVariants.{NoMemory};
 ghost use Rattle.ctw_valid.specs.Named.{AreTyped};
@@ -14,26 +14,26 @@ ghost use Rattle.ctw_valid.specs.Answers.{Checks, NamesTheStop, Applies};
 
 use crate::around::Around;
 use crate::fault::BodyFault;
+use crate::levels::Levels;
 use crate::pass::{begin, step};
-use ctw_flat::Body;
+use ctw_flat::{Body, Walk};
 use ctw_module::Module;
+use ctw_stack::Stack;
 use std::alloc::Global;
 
 /// Passes all opcodes of a body. Bytes that spell no body are refused.
-pub fn check_code(alloc: Global, around: &Around, body: &Body) -> Result<(), BodyFault>
+pub fn check_code(levels: &mut Levels, around: &Around, body: &Body) -> Result<(), BodyFault>
     ensures { (code : Code Label) → IsBody body.now code → Checks (scope_of_body around.now) code result }
 {
-    let end = body.code().len();
-    let mut levels = begin(alloc, around.result)?;
-    let mut place = 0;
+    begin(levels, around.result)?;
+    let mut walk = Walk::new(body);
     let mut at: u32 = 0;
-    'opcodes: while place < end {
-        let (instr, next) = match body.instr_at(place) {
-            Ok(read) => read,
+    'opcodes: while !walk.is_done() {
+        let instr = match walk.next() {
+            Ok(instr) => instr,
             Err(_) => return Err(BodyFault::WrongType { at }),
         };
-        step(around, &mut levels, &instr, at)?;
-        place = next;
+        step(around, levels, &instr, at)?;
         at += 1;
     }
     Ok(())
@@ -50,14 +50,47 @@ pub fn check_body(alloc: Global, m: &Module, f: u32) -> Result<(), BodyFault>
     requires typed { AreTyped (tree m.now) }
     requires defined { imported_count (tree m.now) ≤ f }
     requires there { f < length (function_entries (tree m.now)) }
-    ensures sound { (function : Function Label) → function_named (tree m.now) f ≡ Some function → OnOk result (HasItsType (tree m.now) function) }
-    ensures complete { (function : Function Label) → function_named (tree m.now) f ≡ Some function → HasItsType (tree m.now) function → IsOkUnless result NoMemory }
-    ensures fault { (function : Function Label) → function_named (tree m.now) f ≡ Some function → IfErr result (λ e. e ≢ NoMemory → body_fault (tree m.now) function ≡ Some e) }
-    ensures at { (function : Function Label) → function_named (tree m.now) f ≡ Some function → IfErr result (λ e. NamesTheStop (context_of (tree m.now) function) function.body e) }
-    ensures applies { (function : Function Label) → function_named (tree m.now) f ≡ Some function → IfErr result (λ e. Applies (context_of (tree m.now) function) function.body e) }
+    ensures sound { (function : Function Label) → function_named (tree m.now) f ≡ Some function → OnOk result (HasItsType (view_module m.now) function) }
+    ensures complete { (function : Function Label) → function_named (tree m.now) f ≡ Some function → HasItsType (view_module m.now) function → IsOkUnless result NoMemory }
+    ensures fault { (function : Function Label) → function_named (tree m.now) f ≡ Some function → IfErr result (λ e. e ≢ NoMemory → body_fault (view_module m.now) function ≡ Some e) }
+    ensures at { (function : Function Label) → function_named (tree m.now) f ≡ Some function → IfErr result (λ e. NamesTheStop (context_of (view_module m.now) function) function.body e) }
+    ensures applies { (function : Function Label) → function_named (tree m.now) f ≡ Some function → IfErr result (λ e. Applies (context_of (view_module m.now) function) function.body e) }
 {
-    match m.body(f) {
-        Some(body) => check_code(alloc, &Around::new(m, f), &body),
-        None => unreachable!(),
+    let mut checker = Checker::new(alloc);
+    checker.check_body(m, f)
+}
+
+/// What checks the bodies of a module one after another in the same memory.
+#[derive(Drop)]
+pub struct Checker {
+    levels: Levels,
+}
+
+impl Checker {
+    /// A checker that has no memory yet.
+    pub fn new(alloc: Global) -> Checker {
+        Checker {
+            levels: Levels {
+                stack: Stack::new(alloc),
+                arms: Vec::new(alloc),
+            },
+        }
+    }
+
+    /// What `check_body` answers.
+    pub fn check_body(&mut self, m: &Module, f: u32) -> Result<(), BodyFault>
+        requires typed { AreTyped (tree m.now) }
+        requires defined { imported_count (tree m.now) ≤ f }
+        requires there { f < length (function_entries (tree m.now)) }
+        ensures sound { (function : Function Label) → function_named (tree m.now) f ≡ Some function → OnOk result (HasItsType (view_module m.now) function) }
+        ensures complete { (function : Function Label) → function_named (tree m.now) f ≡ Some function → HasItsType (view_module m.now) function → IsOkUnless result NoMemory }
+        ensures fault { (function : Function Label) → function_named (tree m.now) f ≡ Some function → IfErr result (λ e. e ≢ NoMemory → body_fault (view_module m.now) function ≡ Some e) }
+        ensures at { (function : Function Label) → function_named (tree m.now) f ≡ Some function → IfErr result (λ e. NamesTheStop (context_of (view_module m.now) function) function.body e) }
+        ensures applies { (function : Function Label) → function_named (tree m.now) f ≡ Some function → IfErr result (λ e. Applies (context_of (view_module m.now) function) function.body e) }
+    {
+        match m.body(f) {
+            Some(body) => check_code(&mut self.levels, &Around::new(m, f), &body),
+            None => unreachable!(),
+        }
     }
 }

@@ -14,8 +14,5 @@ mod row;
 mod tables;
 mod values;
 
-pub use check::check_body;
+pub use check::{Checker, check_body};
 pub use fault::BodyFault;
-
-#[cfg(test)]
-mod tests;

@@ -9,7 +9,7 @@ use crate::fault::BodyFault;
 use crate::row::{Row, ending, simple};
 use crate::tables::branch_table;
 use crate::values::{
-    classify, declassify, global_get, global_set, load, local_get, local_set, local_tee,
+    classify, constant, declassify, global_get, global_set, load, local_get, local_set, local_tee,
     memory_grow, memory_size, numeric, store,
 };
 use ctw_flat::Instr;
@@ -63,7 +63,7 @@ pub fn row_of<'a>(
         } => store(around, stack, ValType { width, label }, bytes, align, at),
         Instr::MemorySize => memory_size(around, stack, at),
         Instr::MemoryGrow => memory_grow(around, stack, at),
-        Instr::Const { width, label, .. } => Ok(simple(None, Some(ValType { width, label }))),
+        Instr::Const { width, label, .. } => Ok(constant(width, label)),
         Instr::Numeric { op, label } => numeric(around, stack, op, label, at),
         Instr::Classify { width } => Ok(classify(width)),
         Instr::Declassify { width } => declassify(around, stack, width, at),

@@ -1,7 +1,8 @@
 ghost use Rattle.std.specs.Prelude.{◌≡◌, ◌<◌, ◌-◌, ◌^◌, length, Some, None, OnOk, IfErr};
 ghost use Rattle.ctw_ops.specs.Types.{byte_type, byte_types};
 ghost use Rattle.ctw_ops.specs.Typing.{optional};
-ghost use Rattle.ctw_stack.specs.Steps.{fits, same_width, may_have, width_of, expect as expected, expects, chosen, dropped, joined};
+ghost use Rattle.ctw_ops.specs.Equal.{same_width};
+ghost use Rattle.ctw_stack.specs.Steps.{fits, may_have, width_of, expect as expected, expects, chosen, dropped, joined};
 ghost use Rattle.ctw_stack.specs.Opens.{slot_count, after_push, after_pop};
 ghost use Rattle.ctw_valid.specs.declared.fault.BodyFault.TheVariants.{WrongType, NoMemory};
 ghost use Rattle.ctw_valid.specs.Faults.{same_label, is_secret as secret, guarded_secret, by_type};
@@ -29,6 +30,7 @@ pub fn is_same_label(a: Label, b: Label) -> bool
     a == b
 }
 
+#[inline(always)]
 fn is_fitting(slot: Slot<Label>, t: ValType) -> bool
     ensures { result ≡ fits same_label slot t }
 {
@@ -39,6 +41,7 @@ fn is_fitting(slot: Slot<Label>, t: ValType) -> bool
     }
 }
 
+#[inline(always)]
 fn is_secret(slot: Slot<Label>) -> bool
     ensures { result ≡ secret (Some slot) }
 {
@@ -49,6 +52,7 @@ fn is_secret(slot: Slot<Label>) -> bool
 }
 
 /// Takes a value of a type off.
+#[inline(always)]
 pub fn expect(stack: &mut Stack<Label>, t: ValType, at: u32) -> Result<(), BodyFault>
     requires { 0 < length stack.old }
     ensures step { Follows result (on_innermost (expected same_label t) stack.old) stack.new (WrongType at) }
@@ -67,6 +71,7 @@ pub fn expect(stack: &mut Stack<Label>, t: ValType, at: u32) -> Result<(), BodyF
 }
 
 /// Takes a value of a type off, if there is a type.
+#[inline(always)]
 fn expect_optional(stack: &mut Stack<Label>, t: Option<ValType>, at: u32) -> Result<(), BodyFault>
     requires { 0 < length stack.old }
     ensures step { Follows result (on_innermost (expects same_label (optional t)) stack.old) stack.new (WrongType at) }
@@ -119,6 +124,7 @@ fn expect_params(stack: &mut Stack<Label>, params: &[u8], at: u32) -> Result<(),
 }
 
 /// Takes values of types off.
+#[inline(always)]
 fn expect_types(stack: &mut Stack<Label>, types: &Types, at: u32) -> Result<(), BodyFault>
     requires { 0 < length stack.old }
     ensures step { Follows result (on_innermost (expects same_label (types_in types.now)) stack.old) stack.new (WrongType at) }
@@ -174,6 +180,7 @@ fn join(label: Label, a: Slot<Label>, b: Slot<Label>) -> Option<Slot<Label>>
 }
 
 /// Takes any value off.
+#[inline(always)]
 fn take(stack: &mut Stack<Label>, at: u32) -> Result<Slot<Label>, BodyFault>
     requires { 0 < length stack.old }
     ensures slot { Takes result (after_pop stack.old) stack.new (WrongType at) }
@@ -186,6 +193,7 @@ fn take(stack: &mut Stack<Label>, at: u32) -> Result<Slot<Label>, BodyFault>
 }
 
 /// Puts a value on.
+#[inline(always)]
 pub fn put(stack: &mut Stack<Label>, slot: Slot<Label>) -> Result<(), BodyFault>
     requires open { 0 < length stack.old }
     requires few { slot_count stack.old < 2 ^ 32 - 1 }
@@ -218,6 +226,7 @@ fn choose(stack: &mut Stack<Label>, label: Label, at: u32) -> Result<(), BodyFau
 }
 
 /// Takes a public number of 32 bits off, which stands under a rule.
+#[inline(always)]
 pub fn take_index(stack: &mut Stack<Label>, rule: SecretRule, at: u32) -> Result<(), BodyFault>
     requires { 0 < length stack.old }
     ensures step { Follows result (on_innermost (expects same_label (top_types (Some rule) None)) stack.old) stack.new (by_type at (guarded_secret (own_slots stack.old) (guarded_at (Some rule) None))) }
@@ -235,6 +244,7 @@ pub fn take_index(stack: &mut Stack<Label>, rule: SecretRule, at: u32) -> Result
 }
 
 /// The same of a number below an operand.
+#[inline(always)]
 fn take_index_below(
     stack: &mut Stack<Label>,
     rule: SecretRule,
@@ -258,6 +268,7 @@ fn take_index_below(
 }
 
 /// Takes what stands above the other operands of an instruction.
+#[inline(always)]
 fn take_top(
     stack: &mut Stack<Label>,
     index: Option<SecretRule>,
@@ -277,6 +288,7 @@ fn take_top(
 }
 
 /// Puts on what an instruction gives, or ends the block's live part.
+#[inline(always)]
 fn give(stack: &mut Stack<Label>, ends: bool, gives: Option<ValType>) -> Result<(), BodyFault>
     requires open { 0 < length stack.old }
     requires few { slot_count stack.old < 2 ^ 32 - 1 }
@@ -300,6 +312,7 @@ fn give(stack: &mut Stack<Label>, ends: bool, gives: Option<ValType>) -> Result<
 }
 
 /// Takes the operands below an instruction's last ones, and gives what it gives.
+#[inline(always)]
 fn move_rest(stack: &mut Stack<Label>, row: &Move, at: u32) -> Result<(), BodyFault>
     requires open { 0 < length stack.old }
     requires few { slot_count stack.old < 2 ^ 32 - 1 }
@@ -315,6 +328,7 @@ fn move_rest(stack: &mut Stack<Label>, row: &Move, at: u32) -> Result<(), BodyFa
 }
 
 /// Takes all operands of an instruction, and gives what it gives.
+#[inline(always)]
 fn move_values(stack: &mut Stack<Label>, row: &Move, at: u32) -> Result<(), BodyFault>
     requires open { 0 < length stack.old }
     requires few { slot_count stack.old < 2 ^ 32 - 1 }
@@ -346,6 +360,7 @@ fn select(stack: &mut Stack<Label>, label: Label, at: u32) -> Result<(), BodyFau
 }
 
 /// Does to the operands what a row of the typing's table says. Where no block is open the row is refused.
+#[inline(always)]
 pub fn apply(stack: &mut Stack<Label>, row: &Row, at: u32) -> Result<(), BodyFault>
     requires { slot_count stack.old < 2 ^ 32 - 1 }
     ensures step { Follows result (on_innermost (row_step row.now) stack.old) stack.new (row_fault row.now at (own_slots stack.old)) }

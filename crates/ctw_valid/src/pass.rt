@@ -1,6 +1,6 @@
 ghost use Rattle.std.specs.Prelude.{◌∷◌, Bool, List, drop, reverse, ◌≡◌, ◌<◌, ◌-◌, ◌^◌, length, false, IfOk, IfErr, OnOk, [], Some};
 ghost use Rattle.ctw_flat.specs.Instructions.{op_of, IsExactly};
-ghost use Rattle.ctw_ops.specs.Code.{Opens, Closes, OfIf, ByEnd, ByElse};
+ghost use Rattle.ctw_ops.specs.Code.{Op, Opens, Closes, OfIf, ByEnd, ByElse};
 ghost use Rattle.ctw_ops.specs.declared.types.Label.{Label};
 ghost use Rattle.ctw_stack.specs.Opens.{slot_count};
 ghost use Rattle.ctw_stack.specs.Pass.{level};
@@ -9,35 +9,100 @@ ghost use Rattle.ctw_valid.specs.OnStack.{Follows, IsKept};
 ghost use Rattle.ctw_valid.specs.Scope.{scope, scope_of_body};
 ghost use Rattle.ctw_valid.specs.Tables.{labels_in};
 ghost use Rattle.ctw_valid.specs.Levels.{levels_in, opener, IsEven, IsNext, Passes, PassesLeaf};
-ghost use Rattle.ctw_valid.specs.Rows.{OnLeaf};
+ghost use Rattle.ctw_valid.specs.Rows.{LooksUpOp, OnLeaf};
 ghost use Rattle.ctw_valid.specs.declared.around.Around.{Around};
 ghost use Rattle.ctw_ops.specs.Typing.{Context};
 
 use crate::around::Around;
 use crate::blocks::{end, part};
+use crate::control::branch_if;
 use crate::fault::BodyFault;
 use crate::levels::Levels;
 use crate::lookup::row_of;
 use crate::operands::{apply, take_index};
+use crate::row::Row;
+use crate::values::{constant, load, local_get, local_set, local_tee, numeric, store};
 use ctw_flat::Instr;
 use ctw_ops::{Label, SecretRule, ValType};
 use ctw_stack::Stack;
 use std::alloc::Global;
 
-/// Does to the operands what an instruction without instructions inside does.
+/// Does to the operands what a row says that was looked up.
+#[inline(always)]
+fn follow(stack: &mut Stack<Label>, row: &Result<Row, BodyFault>, at: u32) -> Result<(), BodyFault>
+    requires few { slot_count stack.old < 2 ^ 32 - 1 }
+    ensures step { (C : Context Label) (op : Op Label) → LooksUpOp C op at row.now → OnLeaf C op at result stack.old stack.new }
+    ensures kept { IsKept stack.old stack.new 1 }
+{
+    match row {
+        Ok(row) => apply(stack, row, at),
+        Err(fault) => Err(*fault),
+    }
+}
+
+/// Does to the operands what an instruction without instructions inside does. The most common ones take the shortest way.
+#[inline(always)]
 fn leaf(around: &Around, stack: &mut Stack<Label>, instr: &Instr, at: u32) -> Result<(), BodyFault>
     requires exactly { IsExactly instr.now }
     requires few { slot_count stack.old < 2 ^ 32 - 1 }
     ensures step { OnLeaf (scope around.now (labels_in stack.old)) (op_of instr.now) at result stack.old stack.new }
     ensures kept { IsKept stack.old stack.new 1 }
 {
-    match row_of(around, stack, instr, at) {
-        Ok(row) => apply(stack, &row, at),
-        Err(fault) => Err(fault),
+    match *instr {
+        Instr::LocalGet { index } => {
+            let row = local_get(around, stack, index, at);
+            follow(stack, &row, at)
+        }
+        Instr::LocalSet { index } => {
+            let row = local_set(around, stack, index, at);
+            follow(stack, &row, at)
+        }
+        Instr::LocalTee { index } => {
+            let row = local_tee(around, stack, index, at);
+            follow(stack, &row, at)
+        }
+        Instr::Numeric { op, label } => {
+            let row = numeric(around, stack, op, label, at);
+            follow(stack, &row, at)
+        }
+        Instr::Const { width, label, .. } => {
+            let row = Ok(constant(width, label));
+            follow(stack, &row, at)
+        }
+        Instr::Load {
+            width,
+            label,
+            bytes,
+            align,
+            ..
+        } => {
+            let row = load(around, stack, ValType { width, label }, bytes, align, at);
+            follow(stack, &row, at)
+        }
+        Instr::Store {
+            width,
+            label,
+            bytes,
+            align,
+            ..
+        } => {
+            let row = store(around, stack, ValType { width, label }, bytes, align, at);
+            follow(stack, &row, at)
+        }
+        Instr::BrIf { depth } => {
+            let row = branch_if(around, stack, depth, at);
+            follow(stack, &row, at)
+        }
+        Instr::Drop => follow(stack, &Ok(Row::Drops), at),
+        _ => {
+            let row = row_of(around, stack, instr, at);
+            follow(stack, &row, at)
+        }
     }
 }
 
 /// Passes an instruction without instructions inside.
+#[inline(always)]
 fn pass_leaf(around: &Around, levels: &mut Levels, instr: &Instr, at: u32) -> Result<(), BodyFault>
     requires exactly { IsExactly instr.now }
     requires even { IsEven levels.old }
@@ -141,6 +206,7 @@ fn pass_else(levels: &mut Levels, at: u32) -> Result<(), BodyFault>
 }
 
 /// Passes one opcode.
+#[inline(always)]
 pub fn step(around: &Around, levels: &mut Levels, instr: &Instr, at: u32) -> Result<(), BodyFault>
     requires exactly { IsExactly instr.now }
     requires even { IsEven levels.old }
@@ -159,14 +225,12 @@ pub fn step(around: &Around, levels: &mut Levels, instr: &Instr, at: u32) -> Res
 }
 
 /// The block of a body, before its first opcode.
-pub fn begin(alloc: Global, yields: Option<ValType>) -> Result<Levels, BodyFault>
-    ensures begun { IfOk result (λ levels. (levels_in levels ≡ level false false yields ∷ []) × IsEven levels × (slot_count levels.stack ≡ 0)) }
+pub fn begin(levels: &mut Levels, yields: Option<ValType>) -> Result<(), BodyFault>
+    ensures begun { OnOk result ((levels_in levels.new ≡ level false false yields ∷ []) × IsEven levels.new × (slot_count levels.new.stack ≡ 0)) }
     ensures memory { IfErr result (λ e. e ≡ NoMemory) }
 {
-    let mut levels = Levels {
-        stack: Stack::new(alloc),
-        arms: Vec::new(alloc),
-    };
-    open_block(&mut levels, false, false, yields)?;
-    Ok(levels)
+    levels.stack.clear();
+    levels.arms.clear();
+    open_block(levels, false, false, yields)?;
+    Ok(())
 }

@@ -48,6 +48,7 @@ pub enum Row<'a> {
 }
 
 /// A row that takes at most one value and gives at most one.
+#[inline(always)]
 pub fn simple<'a>(last: Option<ValType>, gives: Option<ValType>) -> Row<'a>
     ensures { result ≡ Moves (record { first = One None; index = None; last = last; fits = true; gives = gives; ends = false }) }
 {
@@ -62,6 +63,7 @@ pub fn simple<'a>(last: Option<ValType>, gives: Option<ValType>) -> Row<'a>
 }
 
 /// A row behind which the block is dead.
+#[inline(always)]
 pub fn ending<'a>(first: Option<ValType>, index: Option<SecretRule>, fits: bool) -> Row<'a>
     ensures { result ≡ Moves (record { first = One first; index = index; last = None; fits = fits; gives = None; ends = true }) }
 {
@@ -76,6 +78,7 @@ pub fn ending<'a>(first: Option<ValType>, index: Option<SecretRule>, fits: bool)
 }
 
 /// A row that takes a public number of 32 bits under a rule, above one value at most.
+#[inline(always)]
 pub fn indexed<'a>(
     first: Option<ValType>,
     rule: SecretRule,

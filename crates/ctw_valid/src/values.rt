@@ -1,12 +1,15 @@
 ghost use Rattle.std.specs.Prelude.{◌≡◌, ◌^◌, ◌&&◌, ℕ, Bool, nat_le, true, false, Some, None};
-ghost use Rattle.ctw_ops.specs.Code.{LocalGet, LocalSet, LocalTee, GlobalGet, GlobalSet, Load, Store, MemorySize, MemoryGrow, Numeric, Declassify};
-ghost use Rattle.ctw_ops.specs.Numeric.{is_timed};
-ghost use Rattle.ctw_ops.specs.Types.{value_type};
+ghost use Rattle.ctw_ops.specs.Typing.{Context};
+ghost use Rattle.ctw_ops.specs.declared.types.Label.{Label};
+ghost use Rattle.ctw_ops.specs.Code.{Const, LocalGet, LocalSet, LocalTee, GlobalGet, GlobalSet, Load, Store, MemorySize, MemoryGrow, Numeric, Declassify};
+ghost use Rattle.ctw_ops.specs.Forms.{is_load, is_store};
+ghost use Rattle.ctw_ops.specs.Numeric.{leaks};
+ghost use Rattle.ctw_ops.specs.Types.{FitsWidth, value_type};
 ghost use Rattle.ctw_ops.specs.declared.types.Label.TheVariants.{Public, Secret};
 ghost use Rattle.ctw_valid.specs.Faults.{same_label};
 ghost use Rattle.ctw_valid.specs.declared.row.Row.TheVariants.{Moves};
 ghost use Rattle.ctw_valid.specs.declared.row.Types.TheVariants.{One};
-ghost use Rattle.ctw_valid.specs.Rows.{LooksUp};
+ghost use Rattle.ctw_valid.specs.Rows.{LooksUp, IsRow};
 ghost use Rattle.ctw_valid.specs.Scope.{scope};
 ghost use Rattle.ctw_valid.specs.Tables.{labels_in};
 
@@ -14,10 +17,11 @@ use crate::around::Around;
 use crate::fault::BodyFault;
 use crate::operands::is_same_label;
 use crate::row::{Move, NUMBER, Row, Types, indexed, simple};
-use ctw_ops::{Label, NumOp, NumSig, SecretRule, Trust, ValType, Width, signature, timed};
+use ctw_ops::{Label, NumOp, NumSig, Profile, SecretRule, Trust, ValType, Width, leaks, signature};
 use ctw_stack::Stack;
 
 /// The row of a `local.get`.
+#[inline(always)]
 pub fn local_get<'a>(
     around: &Around,
     stack: &Stack<Label>,
@@ -33,6 +37,7 @@ pub fn local_get<'a>(
 }
 
 /// The row of a `local.set`.
+#[inline(always)]
 pub fn local_set<'a>(
     around: &Around,
     stack: &Stack<Label>,
@@ -48,6 +53,7 @@ pub fn local_set<'a>(
 }
 
 /// The row of a `local.tee`.
+#[inline(always)]
 pub fn local_tee<'a>(
     around: &Around,
     stack: &Stack<Label>,
@@ -99,6 +105,7 @@ pub fn global_set<'a>(
 
 /// Whether 2 to the power of an alignment passes no more than an access's bytes.
 #[tactic(auto, using(crate::proofs::RowLaws::wide_alignment))]
+#[inline(always)]
 fn is_aligned(align: u32, bytes: u8) -> bool
     ensures { result ≡ nat_le (2 ^ align) bytes }
 {
@@ -106,6 +113,7 @@ fn is_aligned(align: u32, bytes: u8) -> bool
 }
 
 /// The row of a load.
+#[inline(always)]
 pub fn load<'a>(
     around: &Around,
     stack: &Stack<Label>,
@@ -114,7 +122,7 @@ pub fn load<'a>(
     align: u32,
     at: u32,
 ) -> Result<Row<'a>, BodyFault>
-    ensures { (signed : Bool) (offset : ℕ) → LooksUp (scope around.now (labels_in stack.now)) (Load loaded.width loaded.tag bytes signed align offset) at result }
+    ensures { (signed : Bool) (offset : ℕ) → is_load loaded.width bytes signed ≡ true → LooksUp (scope around.now (labels_in stack.now)) (Load loaded.width loaded.tag bytes signed align offset) at result }
 {
     let fits = match around.memory() {
         Some(label) => is_same_label(label, loaded.label),
@@ -127,6 +135,7 @@ pub fn load<'a>(
 }
 
 /// The row of a store.
+#[inline(always)]
 pub fn store<'a>(
     around: &Around,
     stack: &Stack<Label>,
@@ -135,7 +144,7 @@ pub fn store<'a>(
     align: u32,
     at: u32,
 ) -> Result<Row<'a>, BodyFault>
-    ensures { (offset : ℕ) → LooksUp (scope around.now (labels_in stack.now)) (Store stored.width stored.tag bytes align offset) at result }
+    ensures { (offset : ℕ) → is_store stored.width bytes ≡ true → LooksUp (scope around.now (labels_in stack.now)) (Store stored.width stored.tag bytes align offset) at result }
 {
     let fits = match around.memory() {
         Some(label) => is_same_label(label, stored.label),
@@ -175,13 +184,15 @@ pub fn memory_grow<'a>(around: &Around, stack: &Stack<Label>, at: u32) -> Result
 }
 
 /// Whether an operation's time would tell of secrets.
-fn is_secret_division(op: NumOp, label: Label) -> bool
-    ensures { result ≡ (is_timed op && same_label label Secret) }
+#[inline(always)]
+fn leaks_secret(op: NumOp, profile: Profile, label: Label) -> bool
+    ensures { result ≡ (leaks op profile && same_label label Secret) }
 {
-    timed(op) && is_same_label(label, Label::Secret)
+    leaks(op, profile) && is_same_label(label, Label::Secret)
 }
 
 /// The row of an operation with two operands.
+#[inline(always)]
 fn two_operands<'a>(sig: NumSig, label: Label) -> Row<'a>
     ensures { result ≡ Moves (record { first = One (Some (value_type sig.operand label)); index = None; last = Some (value_type sig.operand label); fits = true; gives = Some (value_type sig.result label); ends = false }) }
 {
@@ -205,6 +216,7 @@ fn two_operands<'a>(sig: NumSig, label: Label) -> Row<'a>
 }
 
 /// The row of an operation with one operand.
+#[inline(always)]
 fn one_operand<'a>(sig: NumSig, label: Label) -> Row<'a>
     ensures { result ≡ Moves (record { first = One None; index = None; last = Some (value_type sig.operand label); fits = true; gives = Some (value_type sig.result label); ends = false }) }
 {
@@ -221,7 +233,8 @@ fn one_operand<'a>(sig: NumSig, label: Label) -> Row<'a>
 }
 
 /// The row of a numeric operation.
-#[tactic(auto, using(crate::proofs::RowLaws::binary_row, crate::proofs::RowLaws::unary_row))]
+#[tactic(auto, using(crate::proofs::RowLaws::binary_row, crate::proofs::RowLaws::unary_row, crate::proofs::RowLaws::leaking_row))]
+#[inline(always)]
 pub fn numeric<'a>(
     around: &Around,
     stack: &Stack<Label>,
@@ -231,7 +244,7 @@ pub fn numeric<'a>(
 ) -> Result<Row<'a>, BodyFault>
     ensures { LooksUp (scope around.now (labels_in stack.now)) (Numeric op label) at result }
 {
-    if is_secret_division(op, label) {
+    if leaks_secret(op, around.profile, label) {
         return Err(BodyFault::SecretPlace {
             at,
             rule: SecretRule::Divide,
@@ -242,6 +255,15 @@ pub fn numeric<'a>(
         return Ok(two_operands(sig, label));
     }
     Ok(one_operand(sig, label))
+}
+
+/// The row of a constant.
+#[tactic(auto, using(crate::proofs::RowLaws::constant_row))]
+#[inline(always)]
+pub fn constant<'a>(width: Width, label: Label) -> Row<'a>
+    ensures { (C : Context Label) (bits : ℕ) → FitsWidth width bits → IsRow C (Const width label bits) result }
+{
+    simple(None, Some(ValType { width, label }))
 }
 
 /// The row of a `classify`.

@@ -6,7 +6,7 @@ use Rattle.ctw_ops.specs.ValueType.{ValueType}
 use Rattle.ctw_ops.specs.Tree.{Module, Function, Custom}
 use Rattle.ctw_leb.specs.Grammar.{Items, state_after}
 use Rattle.ctw_leb.specs.Spelling.{u32_text}
-use Rattle.ctw_module.specs.Limits.{most_plain_bytes}
+use Rattle.ctw_ops.specs.Limits.{most_plain_bytes}
 use Rattle.ctw_module.specs.declared.sections.Seen.{Seen}
 use Rattle.ctw_module.specs.Sections.{Entry, Section, Parts, no_parts, nothing_seen, seen_after, with_section, locals_of, functions_of, module_of}
 use Rattle.ctw_module.specs.Spelled.{IsSection, magic, version, File, file_of, IsFile, Spells}
@@ -19,18 +19,18 @@ use Rattle.ctw_write.proofs.SectionTexts.{settled_parts, text_of, file_written}
 
 -- ---- the text of a module by its parts
 
-uses_text : (uses : List ℕ) (entries : List Entry) → length entries ≡ length uses → all_texts (λ (f : Function Label). u32_text f.type) (functions_of uses entries) ≡ all_texts u32_text uses
+pub uses_text : (uses : List ℕ) (entries : List Entry) → length entries ≡ length uses → all_texts (λ (f : Function Label). u32_text f.type) (functions_of uses entries) ≡ all_texts u32_text uses
 uses_text [] entries e = refl
 uses_text (type ∷ uses) [] e = absurd (omega (arith, e))
 uses_text (type ∷ uses) (entry ∷ entries) e = ap (λ (l : List ℕ). u32_text type ++ l) (uses_text uses entries (omega (arith, e)))
 
-codes_text : (uses : List ℕ) (entries : List Entry) → length entries ≡ length uses → all_texts code_text (functions_of uses entries) ≡ all_texts entry_text entries
+pub codes_text : (uses : List ℕ) (entries : List Entry) → length entries ≡ length uses → all_texts code_text (functions_of uses entries) ≡ all_texts entry_text entries
 codes_text [] [] e = refl
 codes_text [] (entry ∷ entries) e = absurd (omega (arith, e))
 codes_text (type ∷ uses) [] e = absurd (omega (arith, e))
 codes_text (type ∷ uses) (entry ∷ entries) e = ap (λ (l : List ℕ). entry_text entry ++ l) (codes_text uses entries (omega (arith, e)))
 
-counted : (uses : List ℕ) (entries : List Entry) → length entries ≡ length uses → length (functions_of uses entries) ≡ length uses
+pub counted : (uses : List ℕ) (entries : List Entry) → length entries ≡ length uses → length (functions_of uses entries) ≡ length uses
 counted [] entries e = refl
 counted (type ∷ uses) [] e = absurd (omega (arith, e))
 counted (type ∷ uses) (entry ∷ entries) e = ap suc (counted uses entries (omega (arith, e)))

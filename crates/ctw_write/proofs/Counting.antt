@@ -7,7 +7,7 @@ use Rattle.ctw_ops.specs.declared.types.Label.{Label}
 use Rattle.ctw_ops.specs.declared.types.Limits.{Limits}
 use Rattle.ctw_ops.specs.Types.{MemoryType, VariableType}
 use Rattle.ctw_ops.specs.Tree.{Import, Extern, ImportedFunction, ImportedTable, ImportedMemory, ImportedGlobal, imported_functions, imported_globals, with_function, with_global}
-use Rattle.ctw_module.specs.Once.{imported_tables, imported_memories, with_table, with_memory}
+use Rattle.ctw_ops.specs.Once.{imported_tables, imported_memories, with_table, with_memory}
 use Rattle.ctw_write.specs.declared.imports.Imported.{Imported}
 use Rattle.ctw_write.specs.Counts.{IsCountOf}
 

@@ -16,7 +16,8 @@ use Rattle.ctw_leb.specs.Spelling.{u32_text}
 use Rattle.ctw_leb.proofs.Exact.{ok_is}
 use Rattle.ctw_leb.proofs.Spelling.{u32_minimal}
 use Rattle.ctw_module.specs.declared.fault.FormKind.{FormKind}
-use Rattle.ctw_module.specs.Limits.{most_locals, most_locals_of_all, room_for}
+use Rattle.ctw_ops.specs.Limits.{most_locals, most_locals_of_all}
+use Rattle.ctw_module.specs.Limits.{room_for}
 use Rattle.ctw_module.specs.Tables.{value_type}
 use Rattle.ctw_module.specs.Sections.{Group, Entry, locals_of}
 use Rattle.ctw_module.specs.Spelled.{IsValueType, Count, count_after, group_of, IsGroup, IsGroups, code_entry, IsFormBody, IsEntry, all_after, IsCodes}
@@ -309,3 +310,41 @@ codes_settled ct owed text entries m =
       (length entries, u32_text (length entries), texts, (number.0, test), items, refl),
       omega (arith, length-append (u32_text (length entries)) texts, ap length m.5, length-append m.1 m.2, number.1, r.1),
     )
+
+-- ---- locals within the limits
+
+before_few : (t : ValueType Label) (groups : List Group) → length (local_before t groups) ≤ suc (length groups)
+before_few t [] = omega arith
+before_few t (g ∷ groups) = go (same_type t g.type)
+  where
+    go : (test : Bool) → length (cond test (record { count = suc g.count; type = g.type } ∷ groups) (record { count = 1; type = t } ∷ g ∷ groups)) ≤ suc (suc (length groups))
+    go true = omega arith
+    go false = omega arith
+
+groups_few : (types : List (ValueType Label)) → length (groups_of types) ≤ length types
+groups_few [] = omega arith
+groups_few (t ∷ types) = omega (arith, before_few t (groups_of types), groups_few types)
+
+room_of : (c : Count) (groups : List Group) → Fits c (length (locals_of groups)) → RoomFor c groups
+room_of c [] f = tt
+room_of c (g ∷ groups) f = f
+
+-- the fewest groups of locals are spelled where these are within the limits
+pub groups_spelled : (ct : Bool) (all : ℕ) (types : List (ValueType Label)) → All (λ t. value_type ct (type_byte t) ≡ Ok t) types → length types ≤ most_locals → all + length types ≤ most_locals_of_all
+    → IsGroups ct all (vector_text group_text (groups_of types)) (groups_of types)
+groups_spelled ct all types w own total =
+    let c : Count = record { own = 0; all = all } in
+    let groups = groups_of types in
+    let number = (u32_minimal (length groups) (small_count (length groups) (omega (arith, groups_few types)))).spelled in
+    let fits : Fits c (length (locals_of groups)) = subst (λ (l : List (ValueType Label)). Fits c (length l)) (sym (groups_locals types)) (record { own = omega arith; all = total }) in
+    (length groups, u32_text (length groups), all_texts group_text groups, number, times_groups ct groups c (all_groups ct types w) (room_of c groups fits), refl)
+
+-- the locals of groups that are spelled are within the limits
+pub groups_limited : (ct : Bool) (all : ℕ) (text : List ℕ) (groups : List Group) → IsGroups ct all text groups → (length (locals_of groups) ≤ most_locals) × (all ≤ most_locals_of_all → all + length (locals_of groups) ≤ most_locals_of_all)
+groups_limited ct all text groups m =
+    let c : Count = record { own = 0; all = all } in
+    go c groups (times_room ct m.0 c m.2 groups m.4)
+  where
+    go : (c : Count) (groups : List Group) → RoomFor c groups → (length (locals_of groups) ≤ most_locals) × (c.all ≤ most_locals_of_all → c.all + length (locals_of groups) ≤ most_locals_of_all)
+    go c [] r = (omega arith, λ le. omega arith)
+    go c (g ∷ groups) r = (omega (arith, r.own), λ le. r.all)

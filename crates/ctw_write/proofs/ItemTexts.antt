@@ -22,7 +22,7 @@ use Rattle.ctw_module.specs.declared.table.EntryForm.TheVariants as entry
 use Rattle.ctw_module.specs.declared.table.ConstantForm.{ConstantForm}
 use Rattle.ctw_module.specs.declared.table.ConstantForm.TheVariants as constant
 use Rattle.ctw_module.specs.declared.table.Held.{Held}
-use Rattle.ctw_module.specs.Limits.{most_params, most_results}
+use Rattle.ctw_ops.specs.Limits.{most_params, most_results}
 use Rattle.ctw_module.specs.Tables.{value_type, entry_form, trust_byte, table_byte, limits_form, memory_form, mutability, extern_kind, import_kind, constant_form, secret_constant, constant_end}
 use Rattle.ctw_module.specs.Sections.{first}
 use Rattle.ctw_module.specs.Spelled.{VectorUpto, IsValueType, IsSignature, entry_of, EntryBehind, IsTypeEntry, unbounded, bounded, Sizes, IsTable, memory_type, IsMemory, variable_type, IsVariable, IsExtern, import_of, IsImport, export_of, IsExport, IsNumber, ConstantBehind, IsConstant, global_of, IsGlobal, element_of, IsElement, segment_of, IsSegment}

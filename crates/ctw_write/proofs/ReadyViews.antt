@@ -13,7 +13,7 @@ use Rattle.ctw_module.proofs.SpelledTrees.{tree_is}
 use Rattle.ctw_write.specs.Canon.{type_entry_text, import_text, table_text, memory_text, global_text, export_text, element_text, segment_text, code_text, items_text, start_text, customs_text, placed_text, sections_text, canon}
 use Rattle.ctw_write.specs.Ready.{IsReady}
 use Rattle.ctw_write.proofs.CanonicalText.{canonical_spelled}
-use Rattle.ctw_write.proofs.Fitted.{constants_fit}
+use Rattle.ctw_module.proofs.Fitted.{constants_fit}
 use Rattle.ctw_write.proofs.Shorter.{view_short}
 
 -- counts of what has no count in a view
@@ -78,6 +78,7 @@ canon_joined m ct start header whole s c h w =
 
 -- canonical bytes are their own canonical spelling
 pub canon_fixed : (bytes : List ℕ) (m : Module Label) (lent : Lent) → Spells bytes m → lent.bytes ≡ canon m → canon (tree lent) ≡ canon m
+unfolding tree
 canon_fixed bytes m lent s e =
     let t : Spells lent.bytes m = subst (λ (l : List ℕ). Spells l m) (sym e) (canonical_spelled bytes m s) in
     ap canon (tree_is lent.bytes m t)

@@ -42,7 +42,7 @@ id_of kind.Elements = 9
 id_of kind.Codes = 10
 id_of kind.Segments = 11
 
-few_ids : (k : SectionKind) → id_of k < 12
+pub few_ids : (k : SectionKind) → id_of k < 12
 few_ids kind.Custom = omega arith
 few_ids kind.Types = omega arith
 few_ids kind.Imports = omega arith
@@ -57,8 +57,8 @@ few_ids kind.Codes = omega arith
 few_ids kind.Segments = omega arith
 
 -- the kind of a byte has that byte for its id, which rises but for custom sections
-record Risen (last id : ℕ) (r : Result SectionKind FormKind) : Type 0 where
-  is : (k : SectionKind) → r ≡ Ok k → (id_of k ≡ id) × (0 < id → last < id)
+pub record Risen (last id : ℕ) (r : Result SectionKind FormKind) : Type 0 where
+  pub is : (k : SectionKind) → r ≡ Ok k → (id_of k ≡ id) × (0 < id → last < id)
 
 risen_row : (last id number : ℕ) (x y : Result SectionKind FormKind) → Risen last number x → Risen last id y → Risen last id (cond (id == number) x y)
 risen_row last id number x y p q = go (id == number) refl
@@ -81,7 +81,7 @@ risen_kind last number k h = record {
   ];
 }
 
-section_risen : (last id : ℕ) → Risen last id (section_kind last id)
+pub section_risen : (last id : ℕ) → Risen last id (section_kind last id)
 unfolding section_kind
 section_risen last id =
     risen_row last id 0 _ _ (risen_custom last)
@@ -148,7 +148,7 @@ pub record Written (ct : Bool) (seen : Seen) (p : Parts) (last : ℕ) (text : Li
   pub next : Kept (state_after seen_after seen sections) (state_after with_section p sections) later
 
 -- one section with the canonical contents
-one_item : (ct : Bool) (seen : Seen) (k : SectionKind) (c : List ℕ) (made : Section) → (0 < id_of k → seen.last < id_of k) → Sized (Insides ct seen k) (sized_text c) made
+pub one_item : (ct : Bool) (seen : Seen) (k : SectionKind) (c : List ℕ) (made : Section) → (0 < id_of k → seen.last < id_of k) → Sized (Insides ct seen k) (sized_text c) made
     → Items (IsSection ct) seen_after seen (section_text (id_of k) c) (made ∷ [])
 one_item ct seen k c made rise m =
     let text = section_text (id_of k) c in
@@ -247,13 +247,13 @@ contents mk G w g text section m =
     let spelled : G (w v.0) v.0 = subst (λ (l : List ℕ). G l v.0) (sym s.3) s.1 in
     sized_short (Mapped mk G) (Mapped mk G) text (w v.0) section (mk v.0) m (v.0, spelled, refl) (omega (arith, ap length s.3, s.2))
 
-settles_imports : (ct : Bool) → Settles [] (IsImports ct) (vector_text import_text)
+pub settles_imports : (ct : Bool) → Settles [] (IsImports ct) (vector_text import_text)
 settles_imports ct =
     settles_then [] IsU32 (λ n. TimesFrom (IsImport ct) held_after n none_held) u32_text (vector_text import_text) settles_number (λ n.
     settles_as (u32_text n) (TimesFrom (IsImport ct) held_after n none_held) (all_texts import_text) (vector_text import_text) (settles_times (IsImport ct) held_after import_text (settles_import ct) n none_held)
     (λ text l m. ap (λ (k : ℕ). u32_text k ++ all_texts import_text l) (times_count (IsImport ct) held_after n none_held text l m)))
 
-few_defined : (b : Bool) → room b ≤ 1
+pub few_defined : (b : Bool) → room b ≤ 1
 few_defined true = omega arith
 few_defined false = omega arith
 
@@ -405,12 +405,12 @@ section_written ct seen p last text section h m =
 
 -- ---- all sections
 
-items-append : {S A : Type 0} (G : S → Grammar A) (next : S → A → S) (s : S) (x y : List ℕ) (l r : List A) → Items G next s x l → Items G next (state_after next s l) y r → Items G next s (x ++ y) (l ++ r)
+pub items-append : {S A : Type 0} (G : S → Grammar A) (next : S → A → S) (s : S) (x y : List ℕ) (l r : List A) → Items G next s x l → Items G next (state_after next s l) y r → Items G next s (x ++ y) (l ++ r)
 items-append G next s x y [] r m n = subst (λ (t : List ℕ). Items G next s (t ++ y) r) (sym m) n
 items-append G next s x y (a ∷ l) r m n =
     (m.0, m.1 ++ y, m.2, items-append G next (next s a) m.1 y l r m.3 n, ap (λ (t : List ℕ). t ++ y) m.4 ∙ append_assoc m.0 m.1 y)
 
-state_after-append : {S A : Type 0} (next : S → A → S) (s : S) (l r : List A) → state_after next s (l ++ r) ≡ state_after next (state_after next s l) r
+pub state_after-append : {S A : Type 0} (next : S → A → S) (s : S) (l r : List A) → state_after next s (l ++ r) ≡ state_after next (state_after next s l) r
 state_after-append next s [] r = refl
 state_after-append next s (a ∷ l) r = state_after-append next (next s a) l r
 

@@ -9,7 +9,7 @@ use Rattle.ctw_ops.specs.Tree.{Module, TypeEntry, Function, Constant, Global, Im
 use Rattle.ctw_ops.specs.Typing.{optional}
 use Rattle.ctw_leb.specs.Spelling.{u32_text}
 use Rattle.ctw_ops.specs.declared.types.Limits.{Limits}
-use Rattle.ctw_module.specs.Once.{imported_tables, imported_memories, with_table, with_memory}
+use Rattle.ctw_ops.specs.Once.{imported_tables, imported_memories, with_table, with_memory}
 use Rattle.ctw_module.specs.Spelled.{Spells}
 use Rattle.ctw_module.proofs.OneOfEach.{at_most_one}
 use Rattle.ctw_module.specs.Lookup.{global_inits}

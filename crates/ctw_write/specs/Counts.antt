@@ -2,7 +2,7 @@
 use Rattle.std.specs.Prelude.{◌≡◌, List, length}
 use Rattle.ctw_ops.specs.declared.types.Label.{Label}
 use Rattle.ctw_ops.specs.Tree.{Import, imported_functions, imported_globals}
-use Rattle.ctw_module.specs.Once.{imported_tables, imported_memories}
+use Rattle.ctw_ops.specs.Once.{imported_tables, imported_memories}
 use Rattle.ctw_write.specs.declared.imports.Imported.{Imported}
 
 -- these are the counts of the imports

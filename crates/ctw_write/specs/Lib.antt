@@ -1,5 +1,5 @@
 pub mod Canon
-pub mod Fitting
 pub mod Counts
 pub mod Runs
 pub mod Ready
+pub mod KeepsLimits

@@ -4,7 +4,7 @@ use Rattle.std.specs.List.{All}
 use Rattle.ctw_module.specs.Spelled.{Spells}
 use Rattle.ctw_module.specs.Trees.{Lent, tree}
 use Rattle.ctw_write.specs.Canon.{canon}
-use Rattle.ctw_write.specs.Fitting.{IsFitting}
+use Rattle.ctw_ops.specs.Valid.{IsFitting}
 
 -- its bytes spell it, its canonical spelling is short, and its constants fit
 pub record IsReady (lent : Lent) : Type 0 where

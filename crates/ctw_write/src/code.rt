@@ -8,7 +8,7 @@ ghost use Rattle.ctw_leb.specs.Spelling.{u32_text};
 ghost use Rattle.ctw_flat.specs.Spelled.{IsOp, IsBody};
 ghost use Rattle.ctw_flat.specs.Instructions.{op_of, targets_in, IsExactly};
 ghost use Rattle.ctw_write.specs.Canon.{all_texts, in_form, bits_text, const_byte, load_byte, store_byte, classify_byte, declassify_byte, block_type_byte, op_text, body_text};
-ghost use Rattle.ctw_write.specs.Fitting.{FitsWidth};
+ghost use Rattle.ctw_ops.specs.Types.{FitsWidth};
 
 use crate::text::type_code;
 use ctw_flat::{Body, Instr};

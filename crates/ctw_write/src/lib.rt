@@ -12,6 +12,3 @@ mod writer;
 
 pub use whole::canon;
 pub use writer::ModuleWriter;
-
-#[cfg(test)]
-mod tests;

@@ -8,7 +8,7 @@ ghost use Rattle.ctw_module.specs.Spelled.{Spells};
 ghost use Rattle.ctw_module.specs.Trees.{tree};
 ghost use Rattle.ctw_module.specs.Shown.{constant_of};
 ghost use Rattle.ctw_write.specs.Canon.{vector_text, type_entry_text, import_text, table_text, memory_text, global_text, export_text, element_text, segment_text, items_text, start_text, custom_text, customs_text, canon};
-ghost use Rattle.ctw_write.specs.Fitting.{IsFitting};
+ghost use Rattle.ctw_ops.specs.Valid.{IsFitting};
 ghost use Rattle.ctw_write.specs.Counts.{IsCountOf};
 
 use crate::imports::Imported;

@@ -6,7 +6,7 @@ ghost use Rattle.ctw_module.specs.Spelled.{export_of, global_of};
 ghost use Rattle.ctw_module.specs.Shown.{constant_of};
 ghost use Rattle.ctw_module.specs.Given.{extern_given, import_given};
 ghost use Rattle.ctw_write.specs.Canon.{vector_text, sized_text, section_text, type_text, trust_byte, entry_byte, signature_text, type_entry_text, limits_text, table_text, memory_text, variable_text, extern_text, import_text, kind_byte, export_text, constant_text, global_text, element_text, segment_text};
-ghost use Rattle.ctw_write.specs.Fitting.{IsFitting};
+ghost use Rattle.ctw_ops.specs.Valid.{IsFitting};
 
 use crate::code::put_const;
 use ctw_leb::put_u32;

@@ -5,7 +5,7 @@ use Rattle.std.specs.Str.{bytes_eq}
 use Rattle.ctw_ops.specs.declared.types.Label.{Label}
 use Rattle.ctw_ops.specs.Tree.{Module}
 use Rattle.ctw_module.specs.declared.fault.FormFault.{FormFault}
-use Rattle.ctw_module.specs.Read.{module_at}
+use Rattle.ctw_ops.specs.declared.numeric.Profile.TheVariants.{Divide}
 use Rattle.ctw_modcheck.specs.declared.fault.Invalid.{Invalid}
 use Rattle.ctw_modcheck.specs.Check.{fault_of}
 use Rattle.ctw_io.specs.Files.{Files}
@@ -15,7 +15,7 @@ use Rattle.ctwasm_top.specs.declared.words.Argument.{Argument}
 use Rattle.ctwasm_top.specs.Session.{Callee, Move, State, opened, Run, plays}
 use Rattle.ctwasm_top.specs.Lines.{reply_lines}
 use Rattle.ctwasm_top.specs.Words.{OnceWords, Command, Check, Canon, Link, Once, command_of, vault_in, vault_word, same_file, Arguments, Read, NoArgument, arguments_of}
-use Rattle.ctwasm_top.specs.Answer.{Outcome, ends, on_file, module_limit, vault_limit, on_form, on_fault, callable, built, once_moves, finished, with_arguments, unless_same, once_call, once_answer, on_words, answer, releases}
+use Rattle.ctwasm_top.specs.Answer.{Outcome, ends, on_file, module_limit, vault_limit, on_form, on_fault, callable, built, once_moves, finished, with_arguments, unless_same, once_call, once_answer, on_words, answer, releases, module_under}
 use Rattle.ctwasm_top.specs.Headline.{OtherVault, saved_size, SameOutcome}
 use Rattle.ctwasm_top.proofs.Seen.{Agree}
 use Rattle.ctwasm_top.proofs.Same.{Same, same_quiet, same_ends}
@@ -106,7 +106,7 @@ module _ (w : OnceWords) (f g : Files) (d : OtherVault w.vault f g) where
   call_same other arguments =
       file_same w.module_file module_limit (get f w.module_file) (get g w.module_file) _ _ (d.others w.module_file other) (λ bytes.
       vault_same w.vault vault_limit (get f w.vault) (get g w.vault) _ _ d.long (λ v v' e.
-      form_same w.module_file (module_at bytes) _ _ (λ m.
+      form_same w.module_file (module_under Divide bytes) _ _ (λ m.
       fault_same w.module_file (fault_of m) _ _
       (built_same w.module_file (callable w.export arguments m) _ _ (λ callee.
       finished_same w.sealed callee (once_moves arguments) (opened v) (opened v') (opened_alike v v' e))))))
@@ -118,9 +118,9 @@ module _ (w : OnceWords) (f g : Files) (d : OtherVault w.vault f g) where
 
 words_same : (o : Option Command) (vault : List ℕ) (f g : Files) → vault_in o ≡ Some vault → OtherVault vault f g → SameOutcomes (on_words f o) (on_words g o)
 words_same None vault f g e d = cc
-words_same (Some (Check file)) vault f g e d = cc
+words_same (Some (Check profile file)) vault f g e d = cc
 words_same (Some (Canon file)) vault f g e d = cc
-words_same (Some (Link parts)) vault f g e d = cc
+words_same (Some (Link profile parts)) vault f g e d = cc
 words_same (Some (Once w)) vault f g e d = let q : vault ≡ w.vault = cc in once_same w f g (subst (λ v. OtherVault v f g) q d)
 
 -- the two-vault theorem of the program

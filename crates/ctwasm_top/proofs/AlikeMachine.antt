@@ -7,8 +7,9 @@ use Rattle.ctw_ops.specs.declared.types.Label.TheVariants.{Public, Secret}
 use Rattle.ctw_ops.specs.declared.types.Width.{Width}
 use Rattle.ctw_ops.specs.declared.types.Width.TheVariants.{W32, W64}
 use Rattle.ctw_ops.specs.Types.{ValueType, value_type}
+use Rattle.ctw_ops.specs.Equal.{same_label, same_width, same_type}
 use Rattle.ctw_ops.specs.Code.{Leaf, Nop, Drop, LocalGet, LocalSet, LocalTee, Const, Numeric, Classify, Declassify, Code, Stop, Then}
-use Rattle.ctwasm_top.specs.Machine.{Value, value, Activation, Answer, Goes, Ended, Stuck, Reduced, quiet, same_label, same_width, same_type, arithmetic, given, pop_any, typed, pop, on, leaf, ending, red_code, red, free, Stepped, after, reductions, step, Running, Finished, Turned, stops, turns_on, turn}
+use Rattle.ctwasm_top.specs.Machine.{Value, value, Activation, Answer, Goes, Ended, Stuck, Reduced, quiet, arithmetic, given, pop_any, typed, pop, on, leaf, ending, red_code, red, free, Stepped, after, reductions, step, Running, Finished, Turned, stops, turns_on, turn}
 use Rattle.ctwasm_top.proofs.Seen.{seen_number, seen_value, seen_values, seen, seen_answer, seen_turned, Alike}
 use Rattle.ctwasm_top.proofs.Same.{Same, same_quiet, same_both, same_one}
 

@@ -3,14 +3,14 @@ use Rattle.std.proofs.Common.{◌≡◌, ℕ, List, Option, Some, None, option_m
 use Rattle.ctw_io.specs.Files.{Files}
 use Rattle.ctw_ops.specs.declared.types.Label.{Label}
 use Rattle.ctw_ops.specs.Tree.{Module}
-use Rattle.ctw_module.specs.Read.{module_at}
+use Rattle.ctw_ops.specs.declared.numeric.Profile.TheVariants.{Divide}
 use Rattle.ctw_modcheck.specs.Check.{fault_of}
 use Rattle.ctwasm_top.specs.declared.Status.{Status}
 use Rattle.ctwasm_top.specs.declared.words.Argument.{Argument}
 use Rattle.ctwasm_top.specs.OnceWords.{OnceWords}
 use Rattle.ctwasm_top.specs.Session.{Callee, opened, plays}
 use Rattle.ctwasm_top.specs.Checked.{StraightFunction, callee_of}
-use Rattle.ctwasm_top.specs.Answer.{Outcome, refuses, callable, built, finished, once_moves, read_valid, module_call}
+use Rattle.ctwasm_top.specs.Answer.{Outcome, refuses, callable, built, finished, once_moves, module_under, read_valid, module_call}
 use Rattle.ctwasm_top.specs.Headline.{Did, DidTold}
 use Rattle.ctwasm_top.proofs.ModulesRead.{module_read_valid}
 
@@ -24,17 +24,17 @@ made w arguments vault m = built w.module_file (callable w.export arguments m) (
 
 module _ (w : OnceWords) (arguments : List Argument) (bytes vault : List ℕ) (status : Status) (files : Files) (after : Option Files) (taken took : Option (List ℕ)) where
   -- the bytes are no valid module
-  pub call_refused : (name : List ℕ) → after ≡ Some files → name ≡ w.module_file → Did status (read_valid name bytes (made w arguments vault)) files files taken took → DidTold status (module_call w arguments bytes vault) files after taken took
+  pub call_refused : (name : List ℕ) → after ≡ Some files → name ≡ w.module_file → Did status (read_valid Divide name bytes (made w arguments vault)) files files taken took → DidTold status (module_call w arguments bytes vault) files after taken took
   call_refused name told en d = record {
     files = files;
     told = told;
-    did = subst (λ (n : List ℕ). Did status (read_valid n bytes (made w arguments vault)) files files taken took) en d;
+    did = subst (λ (n : List ℕ). Did status (read_valid Divide n bytes (made w arguments vault)) files files taken took) en d;
   }
 
-  module _ (m : Module Label) (read : module_at bytes ≡ Ok m) (valid : fault_of m ≡ None) (export : List ℕ) (ex : export ≡ w.export) (o : Option StraightFunction) (ec : option_map callee_of o ≡ callable export arguments m) where
+  module _ (m : Module Label) (read : module_under Divide bytes ≡ Ok m) (valid : fault_of m ≡ None) (export : List ℕ) (ex : export ≡ w.export) (o : Option StraightFunction) (ec : option_map callee_of o ≡ callable export arguments m) where
     is_made : module_call w arguments bytes vault ≡ built w.module_file (option_map callee_of o) (play w arguments vault)
     is_made =
-        module_read_valid w.module_file bytes m (made w arguments vault) read valid
+        module_read_valid Divide w.module_file bytes m (made w arguments vault) read valid
         ∙ ap (λ (o : Option Callee). built w.module_file o (play w arguments vault)) (ap (λ (x : List ℕ). callable x arguments m) (sym ex) ∙ sym ec)
 
     -- the call isn't built

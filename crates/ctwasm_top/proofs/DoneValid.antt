@@ -4,7 +4,10 @@ use Rattle.std.proofs.lemmas.Bool.{leb-true, le-leb}
 use Rattle.std.specs.FinMap.{get}
 use Rattle.ctw_io.specs.Files.{Files}
 use Rattle.ctw_ops.specs.declared.types.Label.{Label}
-use Rattle.ctw_ops.specs.Tree.{Module}
+use Rattle.ctw_ops.specs.declared.numeric.Profile.{Profile}
+use Rattle.ctw_ops.specs.declared.numeric.Profile.TheVariants.{Divide, Multiply}
+use Rattle.ctw_ops.specs.Tree.{Module, under}
+use Rattle.ctw_ops.specs.Valid.{IsValid}
 use Rattle.ctw_module.specs.declared.fault.FormFault.{FormFault}
 use Rattle.ctw_module.specs.Spelled.{Spells}
 use Rattle.ctw_module.specs.Read.{module_at}
@@ -13,11 +16,13 @@ use Rattle.ctw_write.specs.Canon.{canon}
 use Rattle.ctw_write.proofs.CanonicalText.{canonical_spelled}
 use Rattle.ctw_modcheck.specs.declared.fault.Invalid.{Invalid}
 use Rattle.ctw_modcheck.specs.Check.{fault_of}
-use Rattle.ctw_modcheck.proofs.Validity.{none_is_valid, valid_is_none}
+use Rattle.ctw_modcheck.proofs.Validity.{valid_is_none}
+use Rattle.ctwasm_top.proofs.Profiles.{under_ok, spelled_under, valid_under}
+use Rattle.ctwasm_top.proofs.ModulesRead.{module_read_valid}
 use Rattle.ctwasm_top.specs.declared.Status.TheVariants.{Done, Refused}
 use Rattle.ctwasm_top.specs.declared.words.Argument.{Argument}
 use Rattle.ctwasm_top.specs.Words.{OnceWords, Command, Once, command_of, same_file, Arguments, Read, NoArgument, arguments_of}
-use Rattle.ctwasm_top.specs.Answer.{Outcome, ends, on_file, module_limit, vault_limit, on_form, read, on_fault, check, callable, built, with_arguments, unless_same, check_answer, canon_answer, once_call, on_words, answer}
+use Rattle.ctwasm_top.specs.Answer.{Outcome, ends, on_file, module_limit, vault_limit, on_form, read, on_fault, module_under, read_valid, callable, built, with_arguments, unless_same, check_answer, canon_answer, once_call, on_words, answer}
 use Rattle.ctwasm_top.specs.ValidCalls.{CallsValid, HoldsValid, check_words, canon_words, GivesSpelling}
 
 test_done : (b : Bool) (p q : Outcome) → q.status ≡ Refused → (cond b p q).status ≡ Done → p.status ≡ Done
@@ -50,9 +55,10 @@ once_done words files w r e =
     let a = arguments_done (arguments_of w.arguments) (once_call files w) (unless_done (same_file w) _ e) in
     let m = file_done w.module_file module_limit (get files w.module_file) _ a.1 in
     let v = file_done w.vault vault_limit (get files w.vault) _ m.2 in
-    let f = form_done w.module_file (module_at m.0) _ v.2 in
+    let f = form_done w.module_file (module_under Divide m.0) _ v.2 in
     let c = fault_done w.module_file (fault_of f.0) _ f.2 in
-    record { called = w; is = r; bytes = m.0; told = m.1; tree = f.0; spelled = module_sound m.0 f.0 f.1; valid = none_is_valid f.0 c.0 }
+    let t = spelled_under Divide m.0 f.0 f.1 in
+    record { called = w; is = r; bytes = m.0; told = m.1; tree = t.0; spelled = t.1; valid = subst IsValid t.2 (valid_under Divide m.0 f.0 f.1 c.0) }
 
 is_once : (words : List (List ℕ)) (files : Files) (w : OnceWords) → command_of words ≡ Some (Once w) → (answer words files).status ≡ Done → CallsValid words files
 unfolding answer
@@ -79,25 +85,30 @@ held_file name limit o bytes go e h =
     ∙ ap (λ (b : Bool). cond b (go bytes) (Rattle.ctwasm_top.specs.Answer.refuses (codes "TooLarge") name)) (le-leb (length bytes) limit h)
 
 -- `check` says ok exactly of files that hold a valid module
-pub check_is_valid : (name : List ℕ) (files : Files) → ((answer (check_words name) files).status ≡ Done) ↔ HoldsValid files name
-unfolding answer
-check_is_valid name files = (
+checked_is_valid : (profile : Profile) (name : List ℕ) (files : Files) → ((check_answer files profile name).status ≡ Done) ↔ HoldsValid files profile name
+checked_is_valid profile name files = (
   (λ e.
       let m = file_limit name module_limit (get files name) _ e in
-      let f = form_done name (module_at m.0) _ m.3 in
+      let f = form_done name (module_under profile m.0) _ m.3 in
       let c = fault_done name (fault_of f.0) _ f.2 in
-      record { bytes = m.0; told = m.1; short = m.2; tree = f.0; spelled = module_sound m.0 f.0 f.1; valid = none_is_valid f.0 c.0 }),
+      let t = spelled_under profile m.0 f.0 f.1 in
+      record { bytes = m.0; told = m.1; short = m.2; tree = t.0; spelled = t.1; valid = subst IsValid t.2 (valid_under profile m.0 f.0 f.1 c.0) }),
   (λ h.
-      let file = held_file name module_limit (get files name) h.bytes (λ bytes. read name bytes (λ m. check name m (ends Done (codes "ok\n")))) h.told h.short in
-      let form = ap (λ (r : Result (Module Label) FormFault). on_form name r (λ m. check name m (ends Done (codes "ok\n")))) (module_complete h.bytes h.tree h.spelled) in
-      let fault = ap (λ (o : Option Invalid). on_fault name o (ends Done (codes "ok\n"))) (valid_is_none h.tree h.valid) in
-      ap (λ (a : Outcome). a.status) (file ∙ form ∙ fault)),
+      let m : Module Label = under profile h.tree in
+      let file = held_file name module_limit (get files name) h.bytes (λ bytes. read_valid profile name bytes (λ m. ends Done (codes "ok\n"))) h.told h.short in
+      let read = module_read_valid profile name h.bytes m (λ m. ends Done (codes "ok\n")) (under_ok profile h.bytes h.tree (module_complete h.bytes h.tree h.spelled)) (valid_is_none m h.valid) in
+      ap (λ (a : Outcome). a.status) (file ∙ read)),
 )
 
+pub check_is_valid : (profile : Profile) (name : List ℕ) (files : Files) → ((answer (check_words profile name) files).status ≡ Done) ↔ HoldsValid files profile name
+unfolding answer
+check_is_valid Divide name files = checked_is_valid Divide name files
+check_is_valid Multiply name files = checked_is_valid Multiply name files
+
 -- so no file that holds one is refused
-pub is_passed : (name : List ℕ) (files : Files) → HoldsValid files name → (answer (check_words name) files).status ≡ Refused → ⊥
-is_passed name files h r =
-    let e : Refused ≡ Done = sym r ∙ (check_is_valid name files).1 h in
+pub is_passed : (profile : Profile) (name : List ℕ) (files : Files) → HoldsValid files profile name → (answer (check_words profile name) files).status ≡ Refused → ⊥
+is_passed profile name files h r =
+    let e : Refused ≡ Done = sym r ∙ (check_is_valid profile name files).1 h in
     cc
 
 -- ---- `canon`

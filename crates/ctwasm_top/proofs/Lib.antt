@@ -22,6 +22,7 @@ pub mod StraightModules
 pub mod FileByFile
 pub mod Dispatched
 pub mod DoneValid
+pub mod Profiles
 pub mod ModulesRead
 pub mod Called
 pub mod WordsCut

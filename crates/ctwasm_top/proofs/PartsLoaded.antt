@@ -6,6 +6,7 @@ use Rattle.std.proofs.Math.Seq.{drop-cons, take-suc}
 use Rattle.std.proofs.lemmas.List.{map-append, take-append-drop}
 use Rattle.std.proofs.lemmas.List.Sums.{sum_by-cons, sum_by_push}
 use Rattle.ctw_io.specs.Files.{Files}
+use Rattle.ctw_ops.specs.declared.numeric.Profile.{Profile}
 use Rattle.ctwasm_top.specs.declared.Status.{Status}
 use Rattle.ctwasm_top.specs.declared.outside.LoadFault.{LoadFault}
 use Rattle.ctwasm_top.specs.declared.words.PartFile.{PartFile}
@@ -131,29 +132,29 @@ names_are (p ∷ loaded) = ap (λ (l : List NamedFile). part_named p.part ∷ l)
 
 -- ---- the answer
 
-module _ (status : Status) (files : Files) (after : Option Files) (taken took : Option (List ℕ)) (parts : List PartFile) (named : List NamedFile) (en : map part_named parts ≡ named) where
+module _ (profile : Profile) (status : Status) (files : Files) (after : Option Files) (taken took : Option (List ℕ)) (parts : List PartFile) (named : List NamedFile) (en : map part_named parts ≡ named) where
   abbrev go : List (List ℕ) → Outcome
-  go bytes = read_parts named bytes (λ set. match set (ends Done (linked_line (length set))))
+  go bytes = read_parts profile named bytes (λ set. match set (ends Done (linked_line (length set))))
 
   -- all files are loaded
-  pub files_loaded : (loaded : List LoadedPart) → after ≡ Some files → AreThere files modules_limit loaded → map (λ p. p.part) loaded ≡ parts → Did status (loaded_answer loaded) files files taken took → DidTold status (link_answer files named) files after taken took
+  pub files_loaded : (loaded : List LoadedPart) → after ≡ Some files → AreThere files modules_limit loaded → map (λ p. p.part) loaded ≡ parts → Did status (loaded_answer profile loaded) files files taken took → DidTold status (link_answer files profile named) files after taken took
   files_loaded loaded told h e d =
       let n : names loaded ≡ named = sym (names_are loaded) ∙ ap (map part_named) e ∙ en in
-      let same : link_answer files named ≡ loaded_answer loaded =
+      let same : link_answer files profile named ≡ loaded_answer profile loaded =
       ap (λ (l : List NamedFile). load_modules files modules_limit l go) (sym n) ∙ all_there files modules_limit loaded go h
-      ∙ ap (λ (l : List NamedFile). read_parts l (contents loaded) (λ set. match set (ends Done (linked_line (length set))))) (sym n) in
+      ∙ ap (λ (l : List NamedFile). read_parts profile l (contents loaded) (λ set. match set (ends Done (linked_line (length set))))) (sym n) in
       record { files = files; told = told; did = subst (λ (a : Outcome). Did status a files files taken took) (sym same) d }
 
   -- one isn't
   pub file_unloaded : (stop : Unloaded) → after ≡ Some files → StopsLoading files parts stop
       → ((limit : ℕ) (file : Option (List ℕ)) (go : List ℕ → Outcome) → IsUnloaded stop.fault limit file → Did status (on_file stop.file.now limit file go) files files taken took)
-      → DidTold status (link_answer files named) files after taken took
+      → DidTold status (link_answer files profile named) files after taken took
   file_unloaded stop told s d =
       let l = modules_limit - bytes_in s.before in
       let n : names s.before ++ part_named s.part ∷ map part_named s.behind ≡ named =
       ap (λ (l : List NamedFile). l ++ part_named s.part ∷ map part_named s.behind) (sym (names_are s.before)) ∙ sym (map-append part_named (map (λ (p : LoadedPart). p.part) s.before) (s.part ∷ s.behind))
       ∙ ap (map part_named) (sym s.split) ∙ en in
-      let same : link_answer files named ≡ on_file s.part.file.now (at_most module_limit l) (get files s.part.file.now) (behind_file files l s.before s.behind go) =
+      let same : link_answer files profile named ≡ on_file s.part.file.now (at_most module_limit l) (get files s.part.file.now) (behind_file files l s.before s.behind go) =
       ap (λ (l : List NamedFile). load_modules files modules_limit l go) (sym n) ∙ some_there files modules_limit s.before s.part s.behind go l refl s.there in
       record {
         files = files;

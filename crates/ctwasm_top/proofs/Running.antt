@@ -4,13 +4,14 @@ use Rattle.std.proofs.Math.Seq.{drop-cons, take-length}
 use Rattle.std.proofs.lemmas.List.{drop_all, length-map}
 use Rattle.ctw_ops.specs.declared.types.Label.{Label}
 use Rattle.ctw_ops.specs.Types.{ValueType}
+use Rattle.ctw_ops.specs.Equal.{same_type, same_types}
 use Rattle.ctw_ops.specs.Code.{Leaf, straight}
 use Rattle.ctw_ops.specs.Typing.{optional}
 use Rattle.ctwasm_top.specs.declared.straight.StraightInstr.{StraightInstr}
 use Rattle.ctwasm_top.specs.declared.straight.StraightInstr.TheVariants.{Classify}
 use Rattle.ctwasm_top.specs.StraightInstrs.{leaf_of}
-use Rattle.ctwasm_top.specs.Machine.{Value, value, Activation, Answer, Goes, Ended, Reduced, quiet, typed, same_type, red, free, Stepped, after, reductions, step, Left, Running, Finished, Turned, with_step, stops, turns_on, turn}
-use Rattle.ctwasm_top.specs.Valid.{Stack, same_types, ends_with}
+use Rattle.ctwasm_top.specs.Machine.{Value, value, Activation, Answer, Goes, Ended, Reduced, quiet, typed, red, free, Stepped, after, reductions, step, Left, Running, Finished, Turned, with_step, stops, turns_on, turn}
+use Rattle.ctwasm_top.specs.Valid.{Stack, ends_with}
 use Rattle.ctwasm_top.specs.WordSteps.{CanStep, WordStep, costs, ended}
 use Rattle.ctwasm_top.specs.Session.{called, most_steps}
 use Rattle.ctwasm_top.specs.Checked.{callee, IsChecked, RunsTo}

@@ -8,13 +8,14 @@ use Rattle.ctw_ops.specs.declared.types.Label.TheVariants.{Public, Secret}
 use Rattle.ctw_ops.specs.declared.types.Width.{Width}
 use Rattle.ctw_ops.specs.declared.types.Width.TheVariants.{W32, W64}
 use Rattle.ctw_ops.specs.Types.{ValueType, value_type}
+use Rattle.ctw_ops.specs.Equal.{same_type}
 use Rattle.ctw_ops.specs.Code.{Leaf, Code, straight}
 use Rattle.ctw_ops.specs.Typing.{optional}
 use Rattle.ctwasm_top.specs.declared.straight.StraightOp.{StraightOp}
 use Rattle.ctwasm_top.specs.declared.straight.StraightInstr.{StraightInstr}
 use Rattle.ctwasm_top.specs.declared.straight.StraightInstr.TheVariants.{Drop, LocalGet, LocalSet, LocalTee, Const, Binary, Classify}
 use Rattle.ctwasm_top.specs.StraightInstrs.{opcode_of, leaf_of}
-use Rattle.ctwasm_top.specs.Machine.{Value, value, Activation, Goes, quiet, same_type, arithmetic, given, typed, red}
+use Rattle.ctwasm_top.specs.Machine.{Value, value, Activation, Goes, quiet, arithmetic, given, typed, red}
 use Rattle.ctwasm_top.specs.Valid.{Stack, and_then, without, pass_all, ends_with}
 use Rattle.ctwasm_top.specs.WordSteps.{CanStep, WordStep, IsBinary}
 use Rattle.ctwasm_top.proofs.AlikeMachine.{same_type_is}

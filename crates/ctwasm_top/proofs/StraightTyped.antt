@@ -1,17 +1,20 @@
 -- The pass over straight code goes through where the code is typed.
 use Rattle.std.proofs.Common.{◌≡◌, ℕ, ◌||◌, ◌==◌, Bool, true, false, ◌&&◌, List, [], ◌∷◌, ◌++◌, append-nil, Option, Some, None, option_map, refl, sym, ap, ap₂, ◌∙◌, subst, cond}
 use Rattle.std.proofs.lemmas.Bool.{eqb-true}
+use Rattle.std.proofs.lemmas.Option.{same_Some}
 use Rattle.ctw_ops.specs.declared.types.Label.{Label}
 use Rattle.ctw_ops.specs.declared.types.Label.TheVariants.{Public, Secret}
 use Rattle.ctw_ops.specs.declared.types.Width.TheVariants.{W32}
 use Rattle.ctw_ops.specs.Types.{ValueType, value_type}
-use Rattle.ctw_ops.specs.Numeric.{num_sig_of, is_timed, num_sig}
+use Rattle.ctw_ops.specs.Equal.{same_types}
+use Rattle.ctw_ops.specs.declared.numeric.NumSig.{NumSig}
+use Rattle.ctw_ops.specs.Numeric.{num_sig_of}
 use Rattle.ctw_ops.specs.Code.{Leaf, Drop, LocalGet, LocalSet, LocalTee, Const, Numeric, Classify, straight, Code, Stop, Then, Block, Loop, If, IfElse}
-use Rattle.ctw_ops.specs.Typing.{Context, optional, Row, Typed, operands, Moves}
+use Rattle.ctw_ops.specs.Typing.{Context, optional, upon, Row, Typed, operands, Moves}
 use Rattle.ctw_ops.specs.Tree.{Module, Function, type_named}
 use Rattle.ctw_ops.specs.Bodies.{context_of, HasItsType}
 use Rattle.ctwasm_top.specs.Straight.{is_straight_operation, is_straight_leaf, straight_leaves}
-use Rattle.ctwasm_top.specs.Valid.{Stack, and_then, without, without_any, pass, pass_all, same_types, ends_with}
+use Rattle.ctwasm_top.specs.Valid.{Stack, and_then, without, without_any, pass, pass_all, ends_with}
 use Rattle.ctwasm_top.proofs.Standing.{same_refl, some_is}
 
 -- one of the five operations
@@ -28,13 +31,13 @@ five op e P a b c d f =
     either (op == 0x6A) (op == 0x6B) e (P op) (λ e. subst P (sym (eqb-true op 0x6A e)) a) (λ e. subst P (sym (eqb-true op 0x6B e)) b))
     (λ e. subst P (sym (eqb-true op 0x71 e)) c)) (λ e. subst P (sym (eqb-true op 0x72 e)) d)) (λ e. subst P (sym (eqb-true op 0x73 e)) f)
 
-straight_signature : (op : ℕ) → is_straight_operation op ≡ true → num_sig_of op ≡ num_sig 2 W32 W32
-unfolding num_sig_of
-straight_signature op e = five op e (λ op. num_sig_of op ≡ num_sig 2 W32 W32) refl refl refl refl refl
+-- two operands of 32 bits, and a result as wide
+abbrev narrow : NumSig
+narrow = record { arity = 2; operand = W32; result = W32 }
 
-straight_untimed : (op : ℕ) → is_straight_operation op ≡ true → is_timed op ≡ false
-unfolding is_timed
-straight_untimed op e = five op e (λ op. is_timed op ≡ false) refl refl refl refl refl
+straight_signature : (op : ℕ) → is_straight_operation op ≡ true → num_sig_of op ≡ Some narrow
+unfolding num_sig_of
+straight_signature op e = five op e (λ op. num_sig_of op ≡ Some narrow) refl refl refl refl refl
 
 -- the stack without a type that it has last
 without_last : (t : ValueType Label) (below : Stack) → without t (t ∷ below) ≡ Some below
@@ -56,12 +59,12 @@ module _ (C : Context Label) (p : C.public ≡ Public) (s : C.secret ≡ Secret)
   row_pass (LocalTee k) a b x (t, f, (kept, ea, eb)) =
       ap (λ (o : Option (ValueType Label)). and_then o (λ t. and_then (without t a) (λ below. Some (t ∷ below)))) f
       ∙ ap (λ (o : Option Stack). and_then o (λ below. Some (t ∷ below))) (ap (without t) ea ∙ without_last t kept) ∙ ap Some (sym eb)
-  row_pass (Const w l bits) a b x (kept, ea, eb) = ap Some (ap (λ (s : Stack). value_type w l ∷ s) ea ∙ sym eb)
-  row_pass (Numeric op l) a b x (timed, (kept, ea, eb)) =
-      let g = straight_signature op x in
+  row_pass (Const w l bits) a b x (fits, (kept, ea, eb)) = ap Some (ap (λ (s : Stack). value_type w l ∷ s) ea ∙ sym eb)
+  row_pass (Numeric op l) a b x (sig, listed, leaking, (kept, ea, eb)) =
+      let g : sig ≡ narrow = same_Some sig narrow (sym listed ∙ straight_signature op x) in
       let t = value_type W32 l in
-      let fa : a ≡ t ∷ t ∷ kept = ea ∙ ap (λ (n : Rattle.ctw_ops.specs.declared.numeric.NumSig.NumSig). Rattle.ctw_ops.specs.Typing.upon (operands n l) kept) g in
-      let fb : b ≡ t ∷ kept = eb ∙ ap (λ (n : Rattle.ctw_ops.specs.declared.numeric.NumSig.NumSig). value_type n.result l ∷ kept) g in
+      let fa : a ≡ t ∷ t ∷ kept = ea ∙ ap (λ (n : NumSig). upon (operands n l) kept) g in
+      let fb : b ≡ t ∷ kept = eb ∙ ap (λ (n : NumSig). value_type n.result l ∷ kept) g in
       ap (λ (o : Option Stack). and_then o (λ below. and_then (without t below) (λ rest. Some (t ∷ rest)))) (ap (without t) fa ∙ without_last t (t ∷ kept))
       ∙ ap (λ (o : Option Stack). and_then o (λ rest. Some (t ∷ rest))) (without_last t kept) ∙ ap Some (sym fb)
   row_pass (Classify w) a b x (kept, ea, eb) =

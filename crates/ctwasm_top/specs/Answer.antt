@@ -4,7 +4,9 @@ use Rattle.std.specs.FinMap.{get}
 use Rattle.ctw_ops.specs.declared.types.Label.{Label}
 use Rattle.ctw_ops.specs.declared.types.ExternTag.{ExternTag}
 use Rattle.ctw_ops.specs.declared.types.ExternTag.TheVariants.{Func}
-use Rattle.ctw_ops.specs.Tree.{Module}
+use Rattle.ctw_ops.specs.declared.numeric.Profile.{Profile}
+use Rattle.ctw_ops.specs.declared.numeric.Profile.TheVariants.{Divide}
+use Rattle.ctw_ops.specs.Tree.{Module, under}
 use Rattle.ctw_module.specs.declared.fault.FormFault.{FormFault}
 use Rattle.ctw_module.specs.Read.{module_at}
 use Rattle.ctw_module.specs.Lookup.{export_in}
@@ -73,14 +75,22 @@ on_fault name None go = go
 abbrev pub check : List ℕ → Module Label → Outcome → Outcome
 check name m go = on_fault name (fault_of m) go
 
--- a file's module, where the bytes spell one that is valid
-abbrev pub read_valid : List ℕ → List ℕ → (Module Label → Outcome) → Outcome
-read_valid name bytes go = read name bytes (λ m. check name m (go m))
+abbrev pub with_profile : Profile → Result (Module Label) FormFault → Result (Module Label) FormFault
+with_profile profile (Ok m) = Ok (under profile m)
+with_profile profile (Err fault) = Err fault
+
+-- the module that bytes spell, under a profile
+abbrev pub module_under : Profile → List ℕ → Result (Module Label) FormFault
+module_under profile bytes = with_profile profile (module_at bytes)
+
+-- a file's module under a profile, where the bytes spell one that is valid
+abbrev pub read_valid : Profile → List ℕ → List ℕ → (Module Label → Outcome) → Outcome
+read_valid profile name bytes go = on_form name (module_under profile bytes) (λ m. check name m (go m))
 
 -- ---- the commands `check` and `canon`
 
-abbrev pub check_answer : Files → List ℕ → Outcome
-check_answer files name = load files name module_limit (λ bytes. read_valid name bytes (λ m. ends Done (codes "ok\n")))
+abbrev pub check_answer : Files → Profile → List ℕ → Outcome
+check_answer files profile name = load files name module_limit (λ bytes. read_valid profile name bytes (λ m. ends Done (codes "ok\n")))
 
 abbrev pub canon_answer : Files → List ℕ → Outcome
 canon_answer files name = load files name module_limit (λ bytes. read name bytes (λ m. ends Done (canon m)))
@@ -101,9 +111,10 @@ load_modules files left (part ∷ parts) go =
     load files part.file (at_most module_limit left) (λ bytes. load_modules files (left - length bytes) parts (λ others. go (bytes ∷ others)))
 
 -- the modules of parts in order, each read and checked before the next
-abbrev pub read_parts : List NamedFile → List (List ℕ) → (ModuleSet → Outcome) → Outcome
-read_parts (part ∷ parts) (bytes ∷ others) go = read_valid part.file bytes (λ m. read_parts parts others (λ set. go (record { name = part.name; tree = m } ∷ set)))
-read_parts parts others go = go []
+abbrev pub read_parts : Profile → List NamedFile → List (List ℕ) → (ModuleSet → Outcome) → Outcome
+read_parts profile (part ∷ parts) (bytes ∷ others) go =
+    read_valid profile part.file bytes (λ m. read_parts profile parts others (λ set. go (record { name = part.name; tree = m } ∷ set)))
+read_parts profile parts others go = go []
 
 abbrev pub on_set : ModuleSet → Option LinkFault → Outcome → Outcome
 on_set set (Some fault) go = ends Refused (link_line set fault)
@@ -113,8 +124,8 @@ on_set set None go = go
 abbrev pub match : ModuleSet → Outcome → Outcome
 match set go = on_set set (set_fault set) go
 
-abbrev pub link_answer : Files → List NamedFile → Outcome
-link_answer files parts = load_modules files modules_limit parts (λ contents. read_parts parts contents (λ set. match set (ends Done (linked_line (length set)))))
+abbrev pub link_answer : Files → Profile → List NamedFile → Outcome
+link_answer files profile parts = load_modules files modules_limit parts (λ contents. read_parts profile parts contents (λ set. match set (ends Done (linked_line (length set)))))
 
 -- ---- the call that the words ask for
 
@@ -161,7 +172,7 @@ unless_same None go = go
 -- over the module's bytes and the vault's
 abbrev pub module_call : OnceWords → List Argument → List ℕ → List ℕ → Outcome
 module_call w arguments bytes vault =
-    read_valid w.module_file bytes (λ m.
+    read_valid Divide w.module_file bytes (λ m.
     built w.module_file (callable w.export arguments m) (λ f.
     finished w.sealed (plays f (opened vault) (once_moves arguments))))
 
@@ -172,9 +183,9 @@ abbrev pub once_answer : Files → OnceWords → Outcome
 once_answer files w = unless_same (same_file w) (with_arguments (arguments_of w.arguments) (once_call files w))
 
 abbrev pub command_answer : Files → Command → Outcome
-command_answer files (Check file) = check_answer files file
+command_answer files (Check profile file) = check_answer files profile file
 command_answer files (Canon file) = canon_answer files file
-command_answer files (Link parts) = link_answer files parts
+command_answer files (Link profile parts) = link_answer files profile parts
 command_answer files (Once w) = once_answer files w
 
 abbrev pub on_words : Files → Option Command → Outcome

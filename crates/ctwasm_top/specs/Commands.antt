@@ -9,7 +9,7 @@ abbrev pub part_named : PartFile → NamedFile
 part_named part = record { name = part.name.now; file = part.file.now }
 
 abbrev pub command_in : Command → words.Command
-command_in (read.Check file) = words.Check file.now
+command_in (read.Check profile file) = words.Check profile file.now
 command_in (read.Canon file) = words.Canon file.now
-command_in (read.Link parts) = words.Link parts
+command_in (read.Link profile parts) = words.Link profile parts
 command_in (read.Once once) = words.Once once

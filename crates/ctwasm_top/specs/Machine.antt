@@ -4,8 +4,9 @@ use Rattle.std.specs.Prelude.{ℕ, zero, suc, ◌+◌, ◌-◌, ◌%◌, Bool, t
 use Rattle.ctw_ops.specs.declared.types.Label.{Label}
 use Rattle.ctw_ops.specs.declared.types.Label.TheVariants.{Public, Secret}
 use Rattle.ctw_ops.specs.declared.types.Width.{Width}
-use Rattle.ctw_ops.specs.declared.types.Width.TheVariants.{W32, W64}
+use Rattle.ctw_ops.specs.declared.types.Width.TheVariants.{W32}
 use Rattle.ctw_ops.specs.Types.{ValueType, value_type}
+use Rattle.ctw_ops.specs.Equal.{same_type}
 use Rattle.ctw_ops.specs.Code.{Leaf, Nop, Drop, LocalGet, LocalSet, LocalTee, Const, Numeric, Classify, Declassify, Code, Stop, Then}
 
 -- a number of a type
@@ -39,19 +40,6 @@ quiet answer = record { answer = answer; release = None }
 
 abbrev pub releasing : ℕ → Answer → Reduced
 releasing number answer = record { answer = answer; release = Some number }
-
-abbrev pub same_label : Label → Label → Bool
-same_label Public Public = true
-same_label Secret Secret = true
-same_label _ _ = false
-
-abbrev pub same_width : Width → Width → Bool
-same_width W32 W32 = true
-same_width W64 W64 = true
-same_width _ _ = false
-
-abbrev pub same_type : ValueType Label → ValueType Label → Bool
-same_type t u = same_width t.width u.width && same_label t.tag u.tag
 
 -- the sum, difference, and, or and exclusive or of numbers of 32 bits (section 4.3.2)
 unfoldable pub arithmetic : ℕ → ℕ → ℕ → Option ℕ

@@ -2,9 +2,9 @@
 use Rattle.std.specs.Prelude.{◌≡◌, ◌≤◌, ◌-◌, ℕ, List, [], ◌∷◌, ◌++◌, map, length, sum_by, Some, None, Result, Ok, Err, Vec}
 use Rattle.std.specs.FinMap.{get}
 use Rattle.ctw_io.specs.Files.{Files}
-use Rattle.ctw_module.specs.Read.{module_at}
+use Rattle.ctw_ops.specs.declared.numeric.Profile.{Profile}
 use Rattle.ctw_modcheck.specs.Check.{fault_of}
-use Rattle.ctw_module.specs.Trees.{tree}
+use Rattle.ctw_module.specs.Trees.{view_module}
 use Rattle.ctw_link.specs.declared.set.Part.{Part}
 use Rattle.ctw_link.specs.Sets.{ModuleSet}
 use Rattle.ctwasm_top.specs.declared.words.PartFile.{PartFile}
@@ -15,7 +15,7 @@ use Rattle.ctwasm_top.specs.Commands.{part_named}
 use Rattle.ctwasm_top.specs.declared.modules.ModuleFault.{ModuleFault}
 use Rattle.ctwasm_top.specs.declared.Status.TheVariants.{Done}
 use Rattle.ctwasm_top.specs.Lines.{linked_line}
-use Rattle.ctwasm_top.specs.Answer.{Outcome, ends, at_most, module_limit, modules_limit, read_parts, match}
+use Rattle.ctwasm_top.specs.Answer.{Outcome, ends, at_most, module_limit, modules_limit, module_under, read_parts, match}
 use Rattle.ctwasm_top.specs.Loading.{IsUnloaded}
 use Rattle.ctwasm_top.specs.Modules.{IsRefused}
 
@@ -44,31 +44,33 @@ ArePartsLoaded (Ok loaded) files parts = AreThere files modules_limit loaded.ite
 ArePartsLoaded (Err stop) files parts = StopsLoading files parts stop
 
 -- the module of a part, under its name, or why there is none
-abbrev pub IsPartRead : Result Part ModuleFault → LoadedPart → Type 0
-IsPartRead (Ok m) p = (m.name ≡ p.part.name.now) × (module_at p.bytes.items ≡ Ok (tree m.«module»)) × (fault_of (tree m.«module») ≡ None)
-IsPartRead (Err fault) p = IsRefused fault p.bytes.items
+abbrev pub IsPartRead : Profile → Result Part ModuleFault → LoadedPart → Type 0
+IsPartRead profile (Ok m) p =
+    (m.name ≡ p.part.name.now) × (module_under profile p.bytes.items ≡ Ok (view_module m.«module»)) × (fault_of (view_module m.«module») ≡ None)
+IsPartRead profile (Err fault) p = IsRefused profile fault p.bytes.items
 
 -- these are the modules of parts, and valid
-abbrev pub AreRead : ModuleSet → List LoadedPart → Type 0
-AreRead [] [] = Unit {0}
-AreRead (m ∷ set) (p ∷ parts) = (m.name ≡ p.part.name.now) × (module_at p.bytes.items ≡ Ok m.tree) × (fault_of m.tree ≡ None) × AreRead set parts
-AreRead set parts = ⊥
+abbrev pub AreRead : Profile → ModuleSet → List LoadedPart → Type 0
+AreRead profile [] [] = Unit {0}
+AreRead profile (m ∷ set) (p ∷ parts) =
+    (m.name ≡ p.part.name.now) × (module_under profile p.bytes.items ≡ Ok m.tree) × (fault_of m.tree ≡ None) × AreRead profile set parts
+AreRead profile set parts = ⊥
 
 -- the first of parts whose bytes spell no valid module
-pub record StopsReading (parts : List LoadedPart) (stop : Unread) : Type 0 where
+pub record StopsReading (profile : Profile) (parts : List LoadedPart) (stop : Unread) : Type 0 where
   pub before : List LoadedPart
   pub part : LoadedPart
   pub behind : List LoadedPart
   pub split : parts ≡ before ++ part ∷ behind
   pub set : ModuleSet
-  pub read : AreRead set before
+  pub read : AreRead profile set before
   pub named : stop.file.now ≡ part.part.file.now
-  pub refused : IsRefused stop.fault part.bytes.items
+  pub refused : IsRefused profile stop.fault part.bytes.items
 
 -- the modules have the names of the parts
 abbrev pub AreNamed : ModuleSet → List LoadedPart → Type 0
 AreNamed set parts = map (λ m. m.name) set ≡ map (λ p. p.part.name.now) parts
 
 -- the answer over the loaded parts
-abbrev pub loaded_answer : List LoadedPart → Outcome
-loaded_answer parts = read_parts (map (λ p. part_named p.part) parts) (map (λ p. p.bytes.items) parts) (λ set. match set (ends Done (linked_line (length set))))
+abbrev pub loaded_answer : Profile → List LoadedPart → Outcome
+loaded_answer profile parts = read_parts profile (map (λ p. part_named p.part) parts) (map (λ p. p.bytes.items) parts) (λ set. match set (ends Done (linked_line (length set))))

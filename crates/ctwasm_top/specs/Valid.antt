@@ -4,8 +4,8 @@ use Rattle.ctw_ops.specs.declared.types.Label.{Label}
 use Rattle.ctw_ops.specs.declared.types.Label.TheVariants.{Public, Secret}
 use Rattle.ctw_ops.specs.declared.types.Width.TheVariants.{W32}
 use Rattle.ctw_ops.specs.Types.{ValueType, value_type}
+use Rattle.ctw_ops.specs.Equal.{same_type, same_types}
 use Rattle.ctw_ops.specs.Code.{Leaf, Drop, LocalGet, LocalSet, LocalTee, Const, Numeric, Classify}
-use Rattle.ctwasm_top.specs.Machine.{same_type}
 
 abbrev pub Stack : Type 0
 Stack = List (ValueType Label)
@@ -43,11 +43,6 @@ pass locals _ stack = None
 abbrev pub pass_all : Stack → List (Leaf Label) → Stack → Option Stack
 pass_all locals [] stack = Some stack
 pass_all locals (leaf ∷ leaves) stack = and_then (pass locals leaf stack) (pass_all locals leaves)
-
-abbrev pub same_types : Stack → Stack → Bool
-same_types [] [] = true
-same_types (t ∷ ts) (u ∷ us) = same_type t u && same_types ts us
-same_types _ _ = false
 
 abbrev pub ends_with : Stack → Option Stack → Bool
 ends_with wanted None = false

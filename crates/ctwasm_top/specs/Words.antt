@@ -6,6 +6,8 @@ use Rattle.std.specs.Char.{is_ascii_digit}
 use Rattle.std.specs.Str.Parse.{digits_value}
 pub use Rattle.ctwasm_top.specs.OnceWords.{OnceWords}
 pub use Rattle.ctwasm_top.specs.NamedFiles.{NamedFile, named_file, named_files}
+use Rattle.ctw_ops.specs.declared.numeric.Profile.{Profile}
+use Rattle.ctw_ops.specs.declared.numeric.Profile.TheVariants.{Divide, Multiply}
 use Rattle.ctwasm_top.specs.declared.words.Argument.{Argument}
 use Rattle.ctwasm_top.specs.declared.words.Argument.TheVariants.{Number, Vault}
 
@@ -24,29 +26,40 @@ abbrev pub link_words : List (List ℕ) → Option (List NamedFile)
 link_words (command ∷ words) = if bytes_eq command (codes "link") && (nat_le 1 (length words) && nat_le (length words) 64) then named_files words else None
 link_words [] = None
 
--- the commands: `check M`, `canon M`, `link NAME=M..`, `once M VAULT SEALED EXPORT ARG..`
+-- the commands: `check M`, `canon M`, `link NAME=M..`, `once M VAULT SEALED EXPORT ARG..`, and the profile of their modules
 pub data Command : Type 0 where
-  Check : (module_file : List ℕ) → Command
+  Check : (profile : Profile) (module_file : List ℕ) → Command
   Canon : (module_file : List ℕ) → Command
-  Link : (parts : List NamedFile) → Command
+  Link : (profile : Profile) (parts : List NamedFile) → Command
   Once : (words : OnceWords) → Command
 
--- a command with one file
-abbrev pub file_command : List ℕ → List ℕ → Option Command
-file_command command file = if bytes_eq command (codes "check") then Some (Check file) else if bytes_eq command (codes "canon") then Some (Canon file) else None
+-- `check M`
+abbrev pub check_command : Profile → List (List ℕ) → Option Command
+check_command profile (command ∷ file ∷ []) = if bytes_eq command (codes "check") then Some (Check profile file) else None
+check_command profile words = None
+
+-- `canon M`
+abbrev pub canon_command : List (List ℕ) → Option Command
+canon_command (command ∷ file ∷ []) = if bytes_eq command (codes "canon") then Some (Canon file) else None
+canon_command words = None
 
 abbrev pub or_command : Option Command → Option Command → Option Command
 or_command (Some command) other = Some command
 or_command None other = other
 
--- a command with one file, where there are two words
-abbrev pub short_command : List (List ℕ) → Option Command
-short_command (command ∷ file ∷ []) = file_command command file
-short_command words = None
+-- a command to which a profile matters
+abbrev pub profiled_command : Profile → List (List ℕ) → Option Command
+profiled_command profile words = or_command (check_command profile words) (option_map (Link profile) (link_words words))
+
+-- such a command behind the word `mul`
+abbrev pub mul_command : List (List ℕ) → Option Command
+mul_command (word ∷ words) = if bytes_eq word (codes "mul") then profiled_command Multiply words else None
+mul_command [] = None
 
 -- the command that the words have the form of
 abbrev pub command_of : List (List ℕ) → Option Command
-command_of words = or_command (short_command words) (or_command (option_map Link (link_words words)) (option_map Once (once_words words)))
+command_of words =
+    or_command (profiled_command Divide words) (or_command (mul_command words) (or_command (canon_command words) (option_map Once (once_words words))))
 
 -- the word of a command's vault, where the command has one
 abbrev pub vault_in : Option Command → Option (List ℕ)

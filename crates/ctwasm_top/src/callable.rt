@@ -3,7 +3,7 @@ ghost use Rattle.std.specs.Prelude.{◌≡◌, true, option_map, All, IfOk, IfSo
 ghost use Rattle.std.specs.List.{list_all};
 ghost use Rattle.ctw_ops.specs.Valid.{IsValid};
 ghost use Rattle.ctw_module.specs.Lookup.{export_in};
-ghost use Rattle.ctw_module.specs.Trees.{tree};
+ghost use Rattle.ctw_module.specs.Trees.{tree, view_module};
 ghost use Rattle.ctwasm_top.specs.Straight.{is_narrow_byte, is_narrow_result, is_untrusted, is_straight_type, has_functions_alone, straight_of};
 ghost use Rattle.ctwasm_top.specs.Checked.{callee_of, IsNarrow};
 ghost use Rattle.ctwasm_top.specs.Session.{fits};
@@ -72,8 +72,8 @@ fn is_straight_type(func_type: &FuncType) -> bool
 
 /// The one function of a straight module; None where a valid module isn't straight.
 fn straight(alloc: Global, module: &Module) -> Result<Option<Function>, AllocError>
-    requires { IsValid (tree module.now) }
-    ensures decides { IfOk result (λ function. function ≡ straight_of (tree module.now)) }
+    requires { IsValid (view_module module.now) }
+    ensures decides { IfOk result (λ function. function ≡ straight_of (view_module module.now)) }
 {
     if !has_functions_alone(module) || module.func_count() != 1 {
         return Ok(None);
@@ -106,8 +106,8 @@ pub fn callable(
     export: &str,
     arguments: &[Argument],
 ) -> Result<Option<Function>, AllocError>
-    requires { IsValid (tree module.now) }
-    ensures decides { IfOk result (λ function. option_map callee_of function ≡ callable export.now arguments.now (tree module.now)) }
+    requires { IsValid (view_module module.now) }
+    ensures decides { IfOk result (λ function. option_map callee_of function ≡ callable export.now arguments.now (view_module module.now)) }
     ensures ready { IfOk result (λ function. IfSome function (λ f. All IsNarrow f.params × (fits f.params arguments.now ≡ true))) }
 {
     let Some(function) = straight(alloc, module)? else {

@@ -4,12 +4,8 @@
 mod callable;
 mod commands;
 mod function;
-#[cfg(test)]
-mod hexadecimal;
 mod lines;
 mod linking;
-#[cfg(test)]
-mod linking_tests;
 mod machine;
 mod modules;
 mod once;
@@ -18,13 +14,10 @@ mod parts;
 mod session;
 mod set_lines;
 mod straight;
-#[cfg(test)]
-mod tests;
-#[cfg(test)]
-mod validity_tests;
 mod words;
 
 ghost use Rattle.std.specs.Prelude.{◌≡◌, List, ℕ, map, string_bytes, Some, None};
+ghost use Rattle.ctw_ops.specs.declared.numeric.Profile.{Profile};
 ghost use Rattle.ctw_io.specs.Files.{Files};
 ghost use Rattle.ctw_io.specs.Faults.{Rose};
 ghost use Rattle.ctwasm_top.specs.declared.Status.TheVariants.{Done, Refused, Usage, ReadFault, WriteFault, SaveFault};
@@ -73,6 +66,7 @@ const USAGE: &[u8] = b"usage: ctwasm check M
        ctwasm run SCRIPT VAULT SEALED NAME=M..
        ctwasm once M VAULT SEALED EXPORT ARG..
        ctwasm work SEED SIZE
+       ctwasm mul COMMAND..
 ";
 
 /// Does what the words say, by the command.
@@ -93,9 +87,9 @@ fn dispatch<F: Shelf, K: Sink>(
 {
     match command_of(words) {
         None => say(out, USAGE, Status::Usage),
-        Some(Command::Check(name)) => check_file(alloc, name, shelf, out),
+        Some(Command::Check(profile, name)) => check_file(alloc, profile, name, shelf, out),
         Some(Command::Canon(name)) => canon_file(alloc, name, shelf, out),
-        Some(Command::Link(parts)) => link_files(alloc, &parts, shelf, out),
+        Some(Command::Link(profile, parts)) => link_files(alloc, profile, &parts, shelf, out),
         Some(Command::Once(once)) => run_once(alloc, &once, shelf, out),
     }
 }
@@ -103,8 +97,9 @@ fn dispatch<F: Shelf, K: Sink>(
 /// Does what the words after the program's name say, over these files and this place for text.
 ///
 /// For now it has the commands `check M`, `canon M`, `link NAME=M..`, and `once M VAULT SEALED EXPORT ARG..` over straight
-/// modules; all other words are a wrong use, whose text is written. Every text is written before a file is saved, and files
-/// are saved in the last place.
+/// modules. Before `check` and `link` the word `mul` may stand, under which multiplications leak as divisions do. All other
+/// words are a wrong use, whose text is written. Every text is written before a file is saved, and files are saved in the
+/// last place.
 pub fn ctwasm<F: Shelf, K: Sink>(
     alloc: Global,
     words: &[String],
@@ -115,16 +110,22 @@ pub fn ctwasm<F: Shelf, K: Sink>(
     ensures did { (files : Files) → F.files shelf.old ≡ Some files
         → DidTold result (answer (map string_bytes words.now) files) files (F.files shelf.new) (K.taken out.old) (K.taken out.new) }
 
-    // `check` ends well only for a file whose bytes spell a valid module, and refuses no such file.
-    ensures checked { (files : Files) (name : List ℕ) → F.files shelf.old ≡ Some files → map string_bytes words.now ≡ check_words name → result ≡ Done → HoldsValid files name }
-    ensures passed { (files : Files) (name : List ℕ) → F.files shelf.old ≡ Some files → map string_bytes words.now ≡ check_words name → HoldsValid files name → result ≡ Refused → ⊥ }
+    // `check` ends well only for a file whose bytes spell a module that is valid under the words' profile, and refuses no such
+    // file.
+    ensures checked { (files : Files) (profile : Profile) (name : List ℕ) → F.files shelf.old ≡ Some files
+        → map string_bytes words.now ≡ check_words profile name → result ≡ Done → HoldsValid files profile name }
+    ensures passed { (files : Files) (profile : Profile) (name : List ℕ) → F.files shelf.old ≡ Some files
+        → map string_bytes words.now ≡ check_words profile name → HoldsValid files profile name → result ≡ Refused → ⊥ }
 
     // `canon` writes bytes that spell the file's module.
     ensures spelled { (files : Files) (name : List ℕ) → F.files shelf.old ≡ Some files → map string_bytes words.now ≡ canon_words name → result ≡ Done → GivesSpelling files name }
 
-    // `link` ends well only for files that hold valid modules that match, and refuses no such files.
-    ensures linked { (files : Files) (parts : List NamedFile) → F.files shelf.old ≡ Some files → command_of (map string_bytes words.now) ≡ Some (Link parts) → result ≡ Done → HoldsSet files parts }
-    ensures matched { (files : Files) (parts : List NamedFile) → F.files shelf.old ≡ Some files → command_of (map string_bytes words.now) ≡ Some (Link parts) → HoldsSet files parts → result ≡ Refused → ⊥ }
+    // `link` ends well only for files that hold modules that are valid under the words' profile and match, and refuses no such
+    // files.
+    ensures linked { (files : Files) (profile : Profile) (parts : List NamedFile) → F.files shelf.old ≡ Some files
+        → command_of (map string_bytes words.now) ≡ Some (Link profile parts) → result ≡ Done → HoldsSet files profile parts }
+    ensures matched { (files : Files) (profile : Profile) (parts : List NamedFile) → F.files shelf.old ≡ Some files
+        → command_of (map string_bytes words.now) ≡ Some (Link profile parts) → HoldsSet files profile parts → result ≡ Refused → ⊥ }
 
     // A call is made only of a module that is valid.
     ensures valid { (files : Files) (w : OnceWords) → F.files shelf.old ≡ Some files → command_of (map string_bytes words.now) ≡ Some (Once w) → result ≡ Done → CallsValid (map string_bytes words.now) files }

@@ -19,6 +19,7 @@ use crate::set_lines::{link_line, linked_line};
 use crate::words::LinkWords;
 use ctw_io::{Shelf, Sink};
 use ctw_link::{LinkFault, link};
+use ctw_ops::Profile;
 use std::alloc::Global;
 
 /// Answers for parts that have this fault.
@@ -70,15 +71,20 @@ fn say_linked<K: Sink>(alloc: Global, out: &mut K, parts: usize) -> Status
 }
 
 /// Reads, checks and links loaded parts, and says how many they are.
-fn link_loaded<K: Sink>(alloc: Global, parts: &[LoadedPart], out: &mut K) -> Status
+fn link_loaded<K: Sink>(
+    alloc: Global,
+    profile: Profile,
+    parts: &[LoadedPart],
+    out: &mut K,
+) -> Status
     requires some { 1 ≤ length parts.now }
     requires few { length parts.now ≤ 64 }
     requires within { bytes_in parts.now ≤ 134217728 }
-    ensures did { (files : Files) → Did result (loaded_answer parts.now) files files (K.taken out.old) (K.taken out.new) }
+    ensures did { (files : Files) → Did result (loaded_answer profile parts.now) files files (K.taken out.old) (K.taken out.new) }
     ensures write { result ≡ WriteFault → Rose (K.faults out.old) (K.faults out.new) }
     ensures quiet { (result ≡ ReadFault → ⊥) × (result ≡ SaveFault → ⊥) × (result ≡ Usage → ⊥) }
 {
-    let modules = match read_parts(alloc, parts) {
+    let modules = match read_parts(alloc, parts, profile) {
         Ok(modules) => modules,
         Err(stop) => return refuse_module(alloc, out, stop.fault, stop.file),
     };
@@ -91,11 +97,12 @@ fn link_loaded<K: Sink>(alloc: Global, parts: &[LoadedPart], out: &mut K) -> Sta
 /// Says whether the modules of parts match, so that they can be linked in this order.
 pub fn link_files<F: Shelf, K: Sink>(
     alloc: Global,
+    profile: Profile,
     words: &LinkWords,
     shelf: &mut F,
     out: &mut K,
 ) -> Status
-    ensures did { (files : Files) → F.files shelf.old ≡ Some files → DidTold result (link_answer files words.now) files (F.files shelf.new) (K.taken out.old) (K.taken out.new) }
+    ensures did { (files : Files) → F.files shelf.old ≡ Some files → DidTold result (link_answer files profile words.now) files (F.files shelf.new) (K.taken out.old) (K.taken out.new) }
     ensures read { result ≡ ReadFault → Rose (F.faults shelf.old) (F.faults shelf.new) × (K.taken out.new ≡ K.taken out.old) }
     ensures write { result ≡ WriteFault → Rose (K.faults out.old) (K.faults out.new) }
     ensures known { (result ≡ SaveFault → ⊥) × (result ≡ Usage → ⊥) }
@@ -107,5 +114,5 @@ pub fn link_files<F: Shelf, K: Sink>(
         Ok(loaded) => loaded,
         Err(stop) => return refuse_load(alloc, out, stop.fault, stop.file),
     };
-    link_loaded(alloc, &loaded, out)
+    link_loaded(alloc, profile, &loaded, out)
 }

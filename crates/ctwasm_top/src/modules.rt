@@ -1,15 +1,17 @@
 // Modules that are read and checked.
-ghost use Rattle.std.specs.Prelude.{◌≡◌, ◌≤◌, ◌<◌, ◌^◌, ℕ, List, Some, Err, length, IfOk};
+ghost use Rattle.std.specs.Prelude.{◌≡◌, ◌≢◌, ◌≤◌, ◌<◌, ◌^◌, ℕ, List, Some, Result, Ok, Err, length, IfOk};
 ghost use Rattle.ctw_io.specs.Files.{Files};
 ghost use Rattle.ctw_io.specs.Faults.{Rose};
 ghost use Rattle.ctw_ops.specs.declared.types.Label.{Label};
 ghost use Rattle.ctw_ops.specs.Tree.{Module as Tree};
 ghost use Rattle.ctw_ops.specs.Valid.{IsValid};
-ghost use Rattle.ctw_module.specs.Read.{module_at};
-ghost use Rattle.ctw_module.specs.Trees.{tree};
+ghost use Rattle.ctw_ops.specs.declared.numeric.Profile.{Profile};
+ghost use Rattle.ctw_module.specs.declared.fault.FormFault.{FormFault};
+ghost use Rattle.ctw_module.specs.Trees.{tree, view_module};
 ghost use Rattle.ctw_modcheck.specs.Check.{fault_of};
+ghost use Rattle.ctw_modcheck.specs.declared.fault.Invalid.TheVariants as invalid;
 ghost use Rattle.ctwasm_top.specs.declared.Status.TheVariants.{Usage, ReadFault, WriteFault, SaveFault};
-ghost use Rattle.ctwasm_top.specs.Answer.{Outcome, read_valid, read, check};
+ghost use Rattle.ctwasm_top.specs.Answer.{Outcome, on_form, module_under, read_valid, check};
 ghost use Rattle.ctwasm_top.specs.Headline.{Did};
 ghost use Rattle.ctwasm_top.specs.Modules.{IsRefused, IsRead, IsReadValid};
 
@@ -19,6 +21,7 @@ use crate::outside::say;
 use ctw_io::Sink;
 use ctw_modcheck::{Invalid, check};
 use ctw_module::{FormFault, Module};
+use ctw_ops::Profile;
 use ctw_read::read;
 use std::alloc::Global;
 
@@ -56,28 +59,43 @@ pub fn read_module<'a>(alloc: Global, bytes: &'a [u8]) -> Result<Module<'a>, For
     }
 }
 
-/// The module that bytes spell, where it is valid.
-pub fn read_valid<'a>(alloc: Global, bytes: &'a [u8]) -> Result<Module<'a>, ModuleFault>
+/// The module that bytes spell, where it is valid under a profile.
+pub fn read_valid<'a>(
+    alloc: Global,
+    bytes: &'a [u8],
+    profile: Profile,
+) -> Result<Module<'a>, ModuleFault>
     requires { length bytes.now < 2 ^ 32 }
-    ensures told { IsReadValid tree result bytes.now }
-    ensures valid { IfOk result (λ v. IsValid (tree v)) }
+    ensures told { IsReadValid profile view_module result bytes.now }
+    ensures valid { IfOk result (λ v. IsValid (view_module v)) }
 {
-    let module = match read_module(alloc, bytes) {
-        Ok(module) => module,
+    let read = match read_module(alloc, bytes) {
+        Ok(read) => read,
         Err(FormError::Form(fault)) => return Err(ModuleFault::Form(fault)),
         Err(FormError::NoMemory) => return Err(ModuleFault::NoMemory),
     };
+    let module = read.with_profile(profile);
     match check(alloc, &module) {
         Ok(()) => Ok(module),
-        Err(Invalid::NoMemory) => Err(ModuleFault::NoMemory),
-        Err(fault) => Err(ModuleFault::Invalid(fault)),
+        Err(fault) => Err(why_invalid(fault)),
+    }
+}
+
+/// Why a file's bytes, which spell a module with this fault, are none that is valid.
+fn why_invalid(fault: Invalid) -> ModuleFault
+    ensures { (profile : Profile) (bytes : List ℕ) (m : Tree Label) → module_under profile bytes ≡ Ok m
+        → (fault ≢ invalid.NoMemory → fault_of m ≡ Some fault) → IsRefused profile result bytes }
+{
+    match fault {
+        Invalid::NoMemory => ModuleFault::NoMemory,
+        fault => ModuleFault::Invalid(fault),
     }
 }
 
 /// Answers for a file whose bytes spell no module.
 pub fn refuse_form<K: Sink>(alloc: Global, out: &mut K, fault: FormFault, name: &str) -> Status
-    ensures did { (files : Files) (bytes : List ℕ) (go : Tree Label → Outcome) → module_at bytes ≡ Err fault
-        → Did result (read name.now bytes go) files files (K.taken out.old) (K.taken out.new) }
+    ensures did { (files : Files) (form : Result (Tree Label) FormFault) (go : Tree Label → Outcome) → form ≡ Err fault
+        → Did result (on_form name.now form go) files files (K.taken out.old) (K.taken out.new) }
     ensures write { result ≡ WriteFault → Rose (K.faults out.old) (K.faults out.new) }
     ensures quiet { (result ≡ ReadFault → ⊥) × (result ≡ SaveFault → ⊥) × (result ≡ Usage → ⊥) }
     ensures kept { K.faults out.old ≤ K.faults out.new }
@@ -104,8 +122,8 @@ fn refuse_invalid<K: Sink>(alloc: Global, out: &mut K, fault: Invalid, name: &st
 
 /// Answers for a file whose bytes are no module that is valid.
 pub fn refuse_module<K: Sink>(alloc: Global, out: &mut K, fault: ModuleFault, name: &str) -> Status
-    ensures did { (files : Files) (bytes : List ℕ) (go : Tree Label → Outcome) → IsRefused fault bytes
-        → Did result (read_valid name.now bytes go) files files (K.taken out.old) (K.taken out.new) }
+    ensures did { (files : Files) (profile : Profile) (bytes : List ℕ) (go : Tree Label → Outcome) → IsRefused profile fault bytes
+        → Did result (read_valid profile name.now bytes go) files files (K.taken out.old) (K.taken out.new) }
     ensures write { result ≡ WriteFault → Rose (K.faults out.old) (K.faults out.new) }
     ensures quiet { (result ≡ ReadFault → ⊥) × (result ≡ SaveFault → ⊥) × (result ≡ Usage → ⊥) }
     ensures kept { K.faults out.old ≤ K.faults out.new }

@@ -17,6 +17,7 @@ use crate::outside::{MODULE_LIMIT, load_file, refuse, refuse_load};
 use crate::session::{begin, turn};
 use crate::words::{Argument, ArgumentsFault, Once, read_arguments};
 use ctw_io::{Fault, Shelf, Sink, send};
+use ctw_ops::Profile;
 use std::alloc::Global;
 
 /// The greatest size of a vault, in bytes.
@@ -109,7 +110,7 @@ fn call<F: Shelf, K: Sink>(
     ensures known { (result ≡ ReadFault → ⊥) × (result ≡ Usage → ⊥) }
     ensures kept { (K.faults out.old ≤ K.faults out.new) × (F.faults shelf.old ≤ F.faults shelf.new) }
 {
-    let module = match read_valid(alloc, bytes) {
+    let module = match read_valid(alloc, bytes, Profile::Divide) {
         Ok(module) => module,
         Err(fault) => return refuse_module(alloc, out, fault, once.module_file),
     };

@@ -11,7 +11,7 @@ use crate::outside::{LoadFault, MODULE_LIMIT, load_file};
 use crate::words::PartFile;
 use ctw_io::Shelf;
 use ctw_link::Part;
-use ctw_ops::Name;
+use ctw_ops::{Name, Profile};
 use std::alloc::Global;
 
 /// The greatest size of all modules' files of a command together, in bytes.
@@ -80,12 +80,16 @@ pub fn load_parts<'a, F: Shelf>(
     Ok(loaded)
 }
 
-/// Reads and checks the module of a loaded part.
-fn read_part<'b>(alloc: Global, part: &'b LoadedPart) -> Result<Part<'b>, ModuleFault>
+/// Reads and checks the module of a loaded part, under a profile.
+fn read_part<'b>(
+    alloc: Global,
+    part: &'b LoadedPart,
+    profile: Profile,
+) -> Result<Part<'b>, ModuleFault>
     requires { length part.now.bytes.items < 2 ^ 32 }
-    ensures { IsPartRead result part.now }
+    ensures { IsPartRead profile result part.now }
 {
-    let module = match read_valid(alloc, &part.bytes) {
+    let module = match read_valid(alloc, &part.bytes, profile) {
         Ok(module) => module,
         Err(fault) => return Err(fault),
     };
@@ -98,18 +102,19 @@ fn read_part<'b>(alloc: Global, part: &'b LoadedPart) -> Result<Part<'b>, Module
     })
 }
 
-/// Reads and checks the modules of loaded parts in order.
+/// Reads and checks the modules of loaded parts in order, under a profile.
 pub fn read_parts<'a, 'b>(
     alloc: Global,
     parts: &'b [LoadedPart<'a>],
+    profile: Profile,
 ) -> Result<Vec<Part<'b>>, Unread<'a>>
     requires { bytes_in parts.now ≤ 134217728 }
-    ensures read { IfOk result (λ modules. AreRead (set_of modules.items) parts.now) }
-    ensures stops { IfErr result (λ stop. StopsReading parts.now stop) }
+    ensures read { IfOk result (λ modules. AreRead profile (set_of modules.items) parts.now) }
+    ensures stops { IfErr result (λ stop. StopsReading profile parts.now stop) }
 {
     let mut modules = Vec::new(alloc);
     'parts: for part in parts {
-        let read = match read_part(alloc, part) {
+        let read = match read_part(alloc, part, profile) {
             Ok(read) => read,
             Err(fault) => {
                 return Err(Unread {

@@ -2,10 +2,11 @@
 ghost use Rattle.std.specs.Prelude.{◌≡◌, ◌≤◌, map, filter_map, option_map, is_some, true, length, ◌<◌, string_bytes, IfOk};
 ghost use Rattle.std.specs.List.{list_all};
 ghost use Rattle.std.specs.Char.{is_ascii_digit};
-ghost use Rattle.ctwasm_top.specs.Words.{once_words, named_file, named_files, link_words, file_command, short_command, command_of, has_empty, same_file, small_number, argument_of, arguments_of};
+ghost use Rattle.ctwasm_top.specs.Words.{once_words, named_file, named_files, link_words, check_command, canon_command, profiled_command, mul_command, command_of, has_empty, same_file, small_number, argument_of, arguments_of};
 ghost use Rattle.ctwasm_top.specs.Arguments.{AreArguments};
 ghost use Rattle.ctwasm_top.specs.Commands.{part_named, command_in};
 
+use ctw_ops::Profile;
 use std::alloc::{AllocError, AllocFailed, Global};
 use std::marker::Model;
 
@@ -165,46 +166,80 @@ fn once_words(words: &[String]) -> Option<Once<'_>>
 /// A command with its words.
 #[derive(Drop)]
 pub enum Command<'a> {
-    /// `check M`.
-    Check(&'a str),
+    /// `check M`, under a profile.
+    Check(Profile, &'a str),
     /// `canon M`.
     Canon(&'a str),
-    /// `link NAME=M..`.
-    Link(LinkWords<'a>),
+    /// `link NAME=M..`, under a profile.
+    Link(Profile, LinkWords<'a>),
     /// `once M VAULT SEALED EXPORT ARG..`.
     Once(Once<'a>),
 }
 
-/// The command with one file; None where the word is none's.
-fn file_command<'a>(command: &str, file: &'a str) -> Option<Command<'a>>
-    ensures { option_map command_in result ≡ file_command command.now file.now }
-{
-    match command {
-        "check" => Some(Command::Check(file)),
-        "canon" => Some(Command::Canon(file)),
-        _ => None,
-    }
-}
-
-/// The command with one file, where there are two words; None where they are none's.
-fn short_command(words: &[String]) -> Option<Command<'_>>
-    ensures { option_map command_in result ≡ short_command (map string_bytes words.now) }
+/// `check M` under a profile; None where the words have another form.
+fn check_command(profile: Profile, words: &[String]) -> Option<Command<'_>>
+    ensures { option_map command_in result ≡ check_command profile (map string_bytes words.now) }
 {
     let [command, file] = words else {
         return None;
     };
-    file_command(command.as_str(), file.as_str())
+    if command.as_str() != "check" {
+        return None;
+    }
+    Some(Command::Check(profile, file.as_str()))
+}
+
+/// `canon M`; None where the words have another form.
+fn canon_command(words: &[String]) -> Option<Command<'_>>
+    ensures { option_map command_in result ≡ canon_command (map string_bytes words.now) }
+{
+    let [command, file] = words else {
+        return None;
+    };
+    if command.as_str() != "canon" {
+        return None;
+    }
+    Some(Command::Canon(file.as_str()))
+}
+
+/// The command to which a profile matters; None where the words have the form of none.
+fn profiled_command(profile: Profile, words: &[String]) -> Option<Command<'_>>
+    ensures { option_map command_in result ≡ profiled_command profile (map string_bytes words.now) }
+{
+    if let Some(command) = check_command(profile, words) {
+        return Some(command);
+    }
+    match link_words(words) {
+        Some(parts) => Some(Command::Link(profile, parts)),
+        None => None,
+    }
+}
+
+/// Such a command behind the word `mul`, under which multiplications leak; None where the words have another form.
+fn mul_command(words: &[String]) -> Option<Command<'_>>
+    ensures { option_map command_in result ≡ mul_command (map string_bytes words.now) }
+{
+    let [word, command @ ..] = words else {
+        return None;
+    };
+    if word.as_str() != "mul" {
+        return None;
+    }
+    profiled_command(Profile::Multiply, command)
 }
 
 /// The command that the words have the form of; None where they have none.
 pub fn command_of(words: &[String]) -> Option<Command<'_>>
     ensures { option_map command_in result ≡ command_of (map string_bytes words.now) }
 {
-    if let Some(command) = short_command(words) {
+    if let Some(command) = profiled_command(Profile::Divide, words) {
         return Some(command);
     }
-    if let Some(parts) = link_words(words) {
-        return Some(Command::Link(parts));
+    if let Some(command) = mul_command(words) {
+        return Some(command);
+    }
+    if let Some(command) = canon_command(words) {
+        return Some(command);
     }
     match once_words(words) {
         Some(once) => Some(Command::Once(once)),

@@ -11,12 +11,12 @@ pub returns-clause-hidden : goal.returns-clause-hidden
 returns-clause-hidden g c = λ files others vault told word other same. answer_alike (map string_bytes c.args.words.now) vault files others word other same
 
 pub returns-clause-checked : goal.returns-clause-checked
-returns-clause-checked g c = λ files name told is done.
-    (check_is_valid name files).0 (subst (λ (w : List (List ℕ)). (answer w files).status ≡ Done) is (done_answer (map string_bytes c.args.words.now) files _ _ _ _ (c.dispatch.ensures.did files told) done))
+returns-clause-checked g c = λ files profile name told is done.
+    (check_is_valid profile name files).0 (subst (λ (w : List (List ℕ)). (answer w files).status ≡ Done) is (done_answer (map string_bytes c.args.words.now) files _ _ _ _ (c.dispatch.ensures.did files told) done))
 
 pub returns-clause-passed : goal.returns-clause-passed
-returns-clause-passed g c = λ files name told is holds refused.
-    is_passed name files holds (subst (λ (w : List (List ℕ)). (answer w files).status ≡ Refused) is (refused_answer (map string_bytes c.args.words.now) files _ _ _ _ (c.dispatch.ensures.did files told) refused))
+returns-clause-passed g c = λ files profile name told is holds refused.
+    is_passed profile name files holds (subst (λ (w : List (List ℕ)). (answer w files).status ≡ Refused) is (refused_answer (map string_bytes c.args.words.now) files _ _ _ _ (c.dispatch.ensures.did files told) refused))
 
 pub returns-clause-spelled : goal.returns-clause-spelled
 returns-clause-spelled g c = λ files name told is done.
@@ -26,8 +26,8 @@ pub returns-clause-valid : goal.returns-clause-valid
 returns-clause-valid g c = λ files w told is done. once_is_valid (map string_bytes c.args.words.now) files w is (done_answer (map string_bytes c.args.words.now) files _ _ _ _ (c.dispatch.ensures.did files told) done)
 
 pub returns-clause-linked : goal.returns-clause-linked
-returns-clause-linked g c = λ files parts told is done. linked_is_held (map string_bytes c.args.words.now) files parts is (done_answer (map string_bytes c.args.words.now) files _ _ _ _ (c.dispatch.ensures.did files told) done)
+returns-clause-linked g c = λ files profile parts told is done. linked_is_held profile (map string_bytes c.args.words.now) files parts is (done_answer (map string_bytes c.args.words.now) files _ _ _ _ (c.dispatch.ensures.did files told) done)
 
 pub returns-clause-matched : goal.returns-clause-matched
-returns-clause-matched g c = λ files parts told is holds refused.
-    held_is_linked (map string_bytes c.args.words.now) files parts is holds (refused_answer (map string_bytes c.args.words.now) files _ _ _ _ (c.dispatch.ensures.did files told) refused)
+returns-clause-matched g c = λ files profile parts told is holds refused.
+    held_is_linked profile (map string_bytes c.args.words.now) files parts is holds (refused_answer (map string_bytes c.args.words.now) files _ _ _ _ (c.dispatch.ensures.did files told) refused)

@@ -1,7 +1,7 @@
 use Rattle.std.proofs.Common.{◌≡◌, ◌-◌, List, length, map, ap, ◌∙◌, arith}
 use Rattle.ctw_ops.specs.declared.types.Label.{Label}
 use Rattle.ctw_ops.specs.Tree.{Import, memory_among, table_among}
-use Rattle.ctw_module.specs.Trees.{Lent, tree, parts}
+use Rattle.ctw_module.specs.Trees.{Lent, tree, parts, view_of}
 use Rattle.ctw_module.specs.Lookup.{export_in}
 use Rattle.ctw_module.proofs.Indexing.{functions_made, imported_made, types_made, inits_made}
 use Rattle.ctw_module.proofs.viewing.index.Goals as goal
@@ -9,7 +9,7 @@ use Rattle.ctw_module.proofs.viewing.index.Goals as goal
 pub invariant_of-result : goal.invariant_of-result
 unfolding tree parts
 invariant_of-result c =
-    let lent : Lent = record { bytes = c.args.bytes.now } in
+    let lent : Lent = view_of c.args.bytes.now in
     let g = c.requires.gathers in
     let imports = c.deref.ensures.value ∙ g.imports in
     let uses = c.deref-2.ensures.value ∙ g.uses in

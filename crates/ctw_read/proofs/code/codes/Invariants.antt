@@ -1,5 +1,5 @@
 use Rattle.std.proofs.Common.{◌≤◌, ◌-◌}
-use Rattle.ctw_module.specs.Limits.{most_locals_of_all}
+use Rattle.ctw_ops.specs.Limits.{most_locals_of_all}
 use Rattle.ctw_read.proofs.CodeLoops.{Entered}
 use Rattle.ctw_read.proofs.code.codes.Given as goal
 

@@ -1,5 +1,5 @@
 use Rattle.std.proofs.Common.{◌≤◌, ◌-◌}
-use Rattle.ctw_module.specs.Limits.{most_locals, most_locals_of_all}
+use Rattle.ctw_ops.specs.Limits.{most_locals, most_locals_of_all}
 use Rattle.ctw_read.proofs.CodeLoops.{Grouped}
 use Rattle.ctw_read.proofs.code.groups.Given as goal
 

@@ -1,6 +1,6 @@
 use Rattle.std.proofs.Common.{ap, sym, subst, ◌∙◌}
 use Rattle.std.proofs.lemmas.Result.{err_from_is_err_and}
-use Rattle.ctw_module.specs.Limits.{most_plain_bytes}
+use Rattle.ctw_ops.specs.Limits.{most_plain_bytes}
 use Rattle.ctw_module.specs.Read.{header_at, file_at}
 use Rattle.ctw_read.specs.declared.fault.ReadFault.{ReadFault}
 use Rattle.ctw_read.specs.Calls.{FailsWith}

@@ -1,11 +1,15 @@
-use Rattle.ctw_flat.specs.Instructions.{op_of}
+use Rattle.ctw_ops.specs.Code.{Plain, Load, Store}
+use Rattle.ctw_flat.specs.Instructions.{IsExactly}
 use Rattle.ctw_valid.specs.Scope.{scope}
 use Rattle.ctw_valid.specs.Tables.{labels_in}
-use Rattle.ctw_valid.proofs.LeafLaws.{leaf_row, leaf_barred}
 use Rattle.ctw_valid.proofs.pass.leaf.Goals as goal
 
-pub returns-in-Ok-clause-step : goal.returns-in-Ok-clause-step
-returns-in-Ok-clause-step c = leaf_row (scope c.args.around.now (labels_in c.args.stack.now)) (op_of c.args.instr.now) c.args.at c.in-Ok.row c.apply.result c.args.stack.now c.apply.new.stack c.in-Ok.ensures c.apply.ensures.step
+pub returns-in-Load-clause-step : goal.returns-in-Load-clause-step
+returns-in-Load-clause-step c =
+    let listed = rw c.in-Load.is at c.requires.exactly in
+    rw c.in-Load.is (c.follow-in-Load.ensures.step (scope c.args.around.now (labels_in c.args.stack.now)) (Plain (Load c.in-Load.width c.in-Load.label c.in-Load.bytes c.in-Load.signed c.in-Load.align c.in-Load.offset)) (c.load-row.ensures c.in-Load.signed c.in-Load.offset listed))
 
-pub returns-in-Err-clause-step : goal.returns-in-Err-clause-step
-returns-in-Err-clause-step c = leaf_barred (scope c.args.around.now (labels_in c.args.stack.now)) (op_of c.args.instr.now) c.args.at c.in-Err.fault c.args.stack.now c.args.stack.now c.in-Err.ensures
+pub returns-in-Store-clause-step : goal.returns-in-Store-clause-step
+returns-in-Store-clause-step c =
+    let exactly = rw c.in-Store.is at c.requires.exactly in
+    rw c.in-Store.is (c.follow-in-Store.ensures.step (scope c.args.around.now (labels_in c.args.stack.now)) (Plain (Store c.in-Store.width c.in-Store.label c.in-Store.bytes c.in-Store.align c.in-Store.offset)) (c.store-row.ensures c.in-Store.offset exactly.1))

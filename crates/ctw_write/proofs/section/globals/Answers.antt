@@ -4,7 +4,7 @@ use Rattle.ctw_ops.specs.declared.types.Label.{Label}
 use Rattle.ctw_module.specs.Trees.{tree}
 use Rattle.ctw_module.specs.Shown.{constant_of}
 use Rattle.ctw_write.specs.Canon.{global_text}
-use Rattle.ctw_write.specs.Fitting.{IsFitting}
+use Rattle.ctw_ops.specs.Valid.{IsFitting}
 use Rattle.ctw_write.proofs.Listed.{listed_next, one_of_all}
 use Rattle.ctw_write.proofs.Shown.{global_at}
 use Rattle.ctw_write.proofs.section.globals.Goals as goal

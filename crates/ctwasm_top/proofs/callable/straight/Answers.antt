@@ -10,7 +10,7 @@ use Rattle.ctw_ops.specs.Tree.{Module, Function, function_entries, type_named}
 use Rattle.ctw_ops.specs.Valid.{IsValid}
 use Rattle.ctw_flat.specs.Spelled.{IsLimitedBody}
 use Rattle.ctw_ops.specs.Typing.{optional}
-use Rattle.ctw_module.specs.Trees.{tree}
+use Rattle.ctw_module.specs.Trees.{view_module}
 use Rattle.ctw_module.specs.Lookup.{function_named, locals_named}
 use Rattle.ctwasm_top.specs.StraightInstrs.{leaf_of}
 use Rattle.ctwasm_top.specs.Straight.{is_straight_type, has_functions_alone, straight_of, straight_leaves, few, straight_function}
@@ -31,15 +31,15 @@ bytes_count bytes types h e = sym (ap length e) ∙ types_length bytes h
 pub returns-then-not-has_functions_alone : goal.returns-then-not-has_functions_alone
 returns-then-not-has_functions_alone c = record {
   decides = elim c.then-not-has_functions_alone.branch [
-    | then-not-has_functions_alone-via-then-not-has_functions_alone w ↦ not_alone (tree c.args.module.now) (sym c.has_functions_alone.ensures ∙ w.if-not-has_functions_alone.true)
+    | then-not-has_functions_alone-via-then-not-has_functions_alone w ↦ not_alone (view_module c.args.module.now) (sym c.has_functions_alone.ensures ∙ w.if-not-has_functions_alone.true)
     | then-not-has_functions_alone-via-else-not-has_functions_alone+then-func_count-ne1 w ↦
-        not_one (tree c.args.module.now) (sym c.has_functions_alone.ensures ∙ w.if-not-has_functions_alone.false) (λ e. w.if-func_count-ne1.true (w.func_count.ensures ∙ e))
+        not_one (view_module c.args.module.now) (sym c.has_functions_alone.ensures ∙ w.if-not-has_functions_alone.false) (λ e. w.if-func_count-ne1.true (w.func_count.ensures ∙ e))
   ];
 }
 
 pub func_type-func_type-requires : goal.func_type-func_type-requires
 func_type-func_type-requires c =
-    let m = tree c.args.module.now in
+    let m = view_module c.args.module.now in
     let o = one m (sym c.has_functions_alone.ensures ∙ c.if-not-has_functions_alone.false) (sym c.func_count.ensures ∙ c.if-func_count-ne1.false) in
     subst (λ (t : ℕ). t < length m.types) (sym (type_is m o.0 (sym c.has_functions_alone.ensures ∙ c.if-not-has_functions_alone.false) o.1 c.type_of_func.result c.type_of_func.ensures))
     (type_there m o.0 (sym c.has_functions_alone.ensures ∙ c.if-not-has_functions_alone.false) o.1 c.requires)
@@ -47,7 +47,7 @@ func_type-func_type-requires c =
 pub returns-then-not-is_straight_type : goal.returns-then-not-is_straight_type
 returns-then-not-is_straight_type c = record {
   decides =
-      let m = tree c.args.module.now in
+      let m = view_module c.args.module.now in
       let alone = sym c.has_functions_alone.ensures ∙ c.if-not-has_functions_alone.false in
       let o = one m alone (sym c.func_count.ensures ∙ c.if-func_count-ne1.false) in
       let t = c.func_type-func_type.ensures ∙ ap (type_named m) (type_is m o.0 alone o.1 c.type_of_func.result c.type_of_func.ensures) in
@@ -84,7 +84,7 @@ items_of o = option_map (λ v. map leaf_of v.items) o
 
 pub function_of-requires-clause-typed : goal.function_of-requires-clause-typed
 function_of-requires-clause-typed c =
-    ((found (tree c.args.module.now) (sym c.has_functions_alone.ensures ∙ c.if-not-has_functions_alone.false) (sym c.func_count.ensures ∙ c.if-func_count-ne1.false) c.type_of_func.result c.func_type-func_type.result
+    ((found (view_module c.args.module.now) (sym c.has_functions_alone.ensures ∙ c.if-not-has_functions_alone.false) (sym c.func_count.ensures ∙ c.if-func_count-ne1.false) c.type_of_func.result c.func_type-func_type.result
     c.local_count.result (length c.func_type.inside.params.now) c.in-Some.body (Some (map leaf_of c.in-Some-2.code.items)) c.requires c.type_of_func.ensures c.func_type-func_type.ensures (sym c.is_straight_type.ensures ∙ c.if-not-is_straight_type.false)
     c.local_count.ensures c.if-local_count-func_type.false (bytes_count c.func_type.inside.params.now c.func_type-func_type.result.params c.func_type.invariant (ap params_of c.func_type.view_is))
     c.in-Some.ensures.spelled (λ body m. ap items_of (sym c.in-Some-2.is) ∙ c.in_ok-code.ensures body m)).typed (map leaf_of c.in-Some-2.code.items) refl).0
@@ -92,14 +92,14 @@ function_of-requires-clause-typed c =
 pub function_of-requires-clause-few : goal.function_of-requires-clause-few
 function_of-requires-clause-few c =
     subst (λ (n : ℕ). n ≤ 1000) (length-map c.in-Some-2.code.items leaf_of)
-    ((found (tree c.args.module.now) (sym c.has_functions_alone.ensures ∙ c.if-not-has_functions_alone.false) (sym c.func_count.ensures ∙ c.if-func_count-ne1.false) c.type_of_func.result c.func_type-func_type.result
+    ((found (view_module c.args.module.now) (sym c.has_functions_alone.ensures ∙ c.if-not-has_functions_alone.false) (sym c.func_count.ensures ∙ c.if-func_count-ne1.false) c.type_of_func.result c.func_type-func_type.result
     c.local_count.result (length c.func_type.inside.params.now) c.in-Some.body (Some (map leaf_of c.in-Some-2.code.items)) c.requires c.type_of_func.ensures c.func_type-func_type.ensures (sym c.is_straight_type.ensures ∙ c.if-not-is_straight_type.false)
     c.local_count.ensures c.if-local_count-func_type.false (bytes_count c.func_type.inside.params.now c.func_type-func_type.result.params c.func_type.invariant (ap params_of c.func_type.view_is))
     c.in-Some.ensures.spelled (λ body m. ap items_of (sym c.in-Some-2.is) ∙ c.in_ok-code.ensures body m)).typed (map leaf_of c.in-Some-2.code.items) refl).1
 
 pub returns-in_ok-function_of-in-Some-2 : goal.returns-in_ok-function_of-in-Some-2
 returns-in_ok-function_of-in-Some-2 c = record {
-  decides = ap Some c.in_ok-function_of-in-Some-2.ensures ∙ sym (found (tree c.args.module.now) (sym c.has_functions_alone.ensures ∙ c.if-not-has_functions_alone.false) (sym c.func_count.ensures ∙ c.if-func_count-ne1.false) c.type_of_func.result c.func_type-func_type.result
+  decides = ap Some c.in_ok-function_of-in-Some-2.ensures ∙ sym (found (view_module c.args.module.now) (sym c.has_functions_alone.ensures ∙ c.if-not-has_functions_alone.false) (sym c.func_count.ensures ∙ c.if-func_count-ne1.false) c.type_of_func.result c.func_type-func_type.result
       c.local_count.result (length c.func_type.inside.params.now) c.in-Some.body (Some (map leaf_of c.in-Some-2.code.items)) c.requires c.type_of_func.ensures c.func_type-func_type.ensures (sym c.is_straight_type.ensures ∙ c.if-not-is_straight_type.false)
       c.local_count.ensures c.if-local_count-func_type.false (bytes_count c.func_type.inside.params.now c.func_type-func_type.result.params c.func_type.invariant (ap params_of c.func_type.view_is))
       c.in-Some.ensures.spelled (λ body m. ap items_of (sym c.in-Some-2.is) ∙ c.in_ok-code.ensures body m)).is;
@@ -107,7 +107,7 @@ returns-in_ok-function_of-in-Some-2 c = record {
 
 pub returns-in-None : goal.returns-in-None
 returns-in-None c = record {
-  decides = sym (found (tree c.args.module.now) (sym c.has_functions_alone.ensures ∙ c.if-not-has_functions_alone.false) (sym c.func_count.ensures ∙ c.if-func_count-ne1.false) c.type_of_func.result c.func_type-func_type.result
+  decides = sym (found (view_module c.args.module.now) (sym c.has_functions_alone.ensures ∙ c.if-not-has_functions_alone.false) (sym c.func_count.ensures ∙ c.if-func_count-ne1.false) c.type_of_func.result c.func_type-func_type.result
       c.local_count.result (length c.func_type.inside.params.now) c.in-Some.body None c.requires c.type_of_func.ensures c.func_type-func_type.ensures (sym c.is_straight_type.ensures ∙ c.if-not-is_straight_type.false)
       c.local_count.ensures c.if-local_count-func_type.false (bytes_count c.func_type.inside.params.now c.func_type-func_type.result.params c.func_type.invariant (ap params_of c.func_type.view_is))
       c.in-Some.ensures.spelled (λ body m. ap items_of (sym c.in-None.is) ∙ c.in_ok-code.ensures body m)).is;

@@ -1,5 +1,6 @@
 use Rattle.std.proofs.Common.{◌≤◌, ℕ, List, Some, length, sym, ap, ◌∙◌, subst}
 use Rattle.ctw_module.specs.Trees.{tree}
+use Rattle.ctw_module.specs.Read.{module_at}
 use Rattle.ctw_write.specs.Canon.{canon}
 use Rattle.ctwasm_top.specs.declared.modules.FormError.{FormError}
 use Rattle.ctwasm_top.specs.declared.Status.TheVariants.{Done}
@@ -25,7 +26,7 @@ returns-in-Err-Form-clause-did g c = λ files told.
     let e = l.0 ∙ ap (λ (b : List ℕ). Some b) (sym c.deref.ensures.value) in
     let h = subst (λ (b : List ℕ). length b ≤ 67108864) (sym c.deref.ensures.value) l.1 in
     loaded c.refuse_form.result files _ _ _ c.args.name.now c.deref.result.now 67108864 (written c.args.name.now) (c.load_file.ensures.unchanged ∙ told) module_limit_is e h
-    (c.refuse_form.ensures.did files c.deref.result.now (λ m. ends Done (canon m)) (subst (λ (f : FormError). IsUnspelled f c.deref.result.now) c.in-Err-Form.field-0-is c.in-Err-Form.ensures))
+    (c.refuse_form.ensures.did files (module_at c.deref.result.now) (λ m. ends Done (canon m)) (subst (λ (f : FormError). IsUnspelled f c.deref.result.now) c.in-Err-Form.field-0-is c.in-Err-Form.ensures))
 
 pub returns-in-Err-NoMemory : goal.returns-in-Err-NoMemory
 returns-in-Err-NoMemory g c = record {
@@ -41,7 +42,7 @@ returns-in-Ok-canon-clause-did g c = λ files told.
     let e = l.0 ∙ ap (λ (b : List ℕ). Some b) (sym c.deref.ensures.value) in
     let h = subst (λ (b : List ℕ). length b ≤ 67108864) (sym c.deref.ensures.value) l.1 in
     loaded c.say.result files _ _ _ c.args.name.now c.deref.result.now 67108864 (written c.args.name.now) (c.load_file.ensures.unchanged ∙ told) module_limit_is e h
-    (form_read c.say.result files _ _ c.args.name.now c.deref.result.now (tree c.in-Ok-read_module.module) (λ m. ends Done (canon m)) c.in-Ok-read_module.ensures
+    (form_read c.say.result files _ _ c.args.name.now c.deref.result.now (module_at c.deref.result.now) (tree c.in-Ok-read_module.module) (λ m. ends Done (canon m)) c.in-Ok-read_module.ensures
     (subst (λ (text : List ℕ). Did c.say.result (ends Done text) files files (g.K.Sink.taken c.args.out.now) (g.K.Sink.taken c.say.new.out)) (c.deref-in-Ok-canon.ensures.value ∙ c.in-Ok-canon.ensures.bytes) (c.say.ensures.did files)))
 
 pub returns-clause-did : goal.returns-clause-did

@@ -12,11 +12,11 @@ returns-in_default-clause-did g c = λ files told. told_nothing _ files _ _ told
 
 pub returns-in-Err-clause-did : goal.returns-in-Err-clause-did
 returns-in-Err-clause-did g c = λ files told.
-    file_unloaded c.refuse_load.result files _ _ _ c.deref.result.now c.args.words.now (ap (map part_named) c.deref.ensures.value ∙ c.in-Ok.ensures.named) c.in-Err.stop (c.load_parts.ensures.unchanged ∙ told)
+    file_unloaded c.args.profile c.refuse_load.result files _ _ _ c.deref.result.now c.args.words.now (ap (map part_named) c.deref.ensures.value ∙ c.in-Ok.ensures.named) c.in-Err.stop (c.load_parts.ensures.unchanged ∙ told)
     (c.in-Err.ensures.told files told) (c.refuse_load.ensures.did files)
 
 pub returns-clause-did : goal.returns-clause-did
 returns-clause-did g c = λ files told.
-    files_loaded c.link_loaded.result files _ _ _ c.deref.result.now c.args.words.now (ap (map part_named) c.deref.ensures.value ∙ c.in-Ok.ensures.named) c.in-Ok-load_parts.loaded.items (c.load_parts.ensures.unchanged ∙ told)
+    files_loaded c.args.profile c.link_loaded.result files _ _ _ c.deref.result.now c.args.words.now (ap (map part_named) c.deref.ensures.value ∙ c.in-Ok.ensures.named) c.in-Ok-load_parts.loaded.items (c.load_parts.ensures.unchanged ∙ told)
     (c.in-Ok-load_parts.ensures.told files told) c.in-Ok-load_parts.ensures.parts
-    (subst (λ (l : List LoadedPart). Did c.link_loaded.result (loaded_answer l) files files (g.K.Sink.taken c.args.out.now) (g.K.Sink.taken c.link_loaded.new.out)) c.deref-2.ensures.value (c.link_loaded.ensures.did files))
+    (subst (λ (l : List LoadedPart). Did c.link_loaded.result (loaded_answer c.args.profile l) files files (g.K.Sink.taken c.args.out.now) (g.K.Sink.taken c.link_loaded.new.out)) c.deref-2.ensures.value (c.link_loaded.ensures.did files))

@@ -1,6 +1,19 @@
-use Rattle.ctw_module.specs.Trees.{tree}
+use Rattle.std.proofs.Common.{Ok, sym, ap, ◌∙◌}
+use Rattle.ctw_ops.specs.Tree.{under}
+use Rattle.ctw_module.specs.Trees.{Lent, tree, view_module}
 use Rattle.ctw_modcheck.proofs.Validity.{valid_is_none}
+use Rattle.ctwasm_top.proofs.Profiles.{under_ok, under_err}
 use Rattle.ctwasm_top.proofs.modules.read_valid.Goals as goal
 
 pub returns-in-Ok-check-clause-told : goal.returns-in-Ok-check-clause-told
-returns-in-Ok-check-clause-told c = (c.in-Ok.ensures, valid_is_none (tree c.in-Ok.module) c.in-Ok-check.ensures.sound)
+unfolding tree
+returns-in-Ok-check-clause-told c = (
+  under_ok c.args.profile c.args.bytes.now (tree c.in-Ok.read) c.in-Ok.ensures ∙ sym (ap (λ (v : Lent). Ok (view_module v)) c.with_profile-module.ensures),
+  valid_is_none (view_module c.with_profile-module.result) c.in-Ok-check.ensures.sound,
+)
+
+pub returns : goal.returns
+unfolding tree
+returns c =
+    let under = under_ok c.args.profile c.args.bytes.now (tree c.in-Ok.read) c.in-Ok.ensures ∙ sym (ap (λ (v : Lent). Ok (view_module v)) c.with_profile-module.ensures) in
+    record { told = c.why_invalid.ensures c.args.profile c.args.bytes.now (view_module c.with_profile-module.result) under c.in-Err.ensures.fault; valid = tt }

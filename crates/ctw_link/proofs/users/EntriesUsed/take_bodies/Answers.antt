@@ -1,7 +1,7 @@
 use Rattle.std.proofs.Common.{◌+◌, ◌-◌, ◌∙◌, arith}
 use Rattle.ctw_ops.specs.IndirectCalls.{indirect_calls}
 use Rattle.ctw_module.specs.Lookup.{imported_count}
-use Rattle.ctw_module.specs.Trees.{tree}
+use Rattle.ctw_module.specs.Trees.{view_module}
 use Rattle.ctw_link.specs.Users.{with_entry}
 use Rattle.ctw_link.proofs.EntryBounds.{named_at, body_below}
 use Rattle.ctw_link.proofs.Folding.{folded_at}
@@ -9,14 +9,14 @@ use Rattle.ctw_link.proofs.users.EntriesUsed.take_bodies.Goals as goal
 
 pub take_calls-requires : goal.take_calls-requires
 take_calls-requires c =
-    let m = tree c.args.m.now in
+    let m = view_module c.args.m.now in
     let s = c.in-Some.ensures.spelled in
     let below = body_below m (c.functions.f - imported_count m) s.0 c.requires.valid (named_at m c.functions.f s.0 s.1).1 in
     (s.0.body, s.2.0, λ k d within. omega (arith, below k d within, c.functions.invariant.count, c.requires.count))
 
 pub functions-preserved : goal.functions-preserved
 functions-preserved c =
-    let m = tree c.args.m.now in
+    let m = view_module c.args.m.now in
     let s = c.in-Some.ensures.spelled in
     let n = named_at m c.functions.f s.0 s.1 in
     record {

@@ -1,12 +1,12 @@
 use Rattle.std.proofs.Common.{◌∙◌, arith}
-use Rattle.ctw_module.specs.Trees.{tree}
+use Rattle.ctw_module.specs.Trees.{view_module}
 use Rattle.ctw_link.proofs.EntryBounds.{entry_below}
 use Rattle.ctw_link.proofs.Folding.{filtered_more}
 use Rattle.ctw_link.proofs.users.EntriesUsed.take_element.Goals as goal
 
 pub take-requires : goal.take-requires
 take-requires c =
-    let below = entry_below (tree c.args.m.now) c.func.result c.type_of_func.result c.requires.valid c.type_of_func.ensures in
+    let below = entry_below (view_module c.args.m.now) c.func.result c.type_of_func.result c.requires.valid c.type_of_func.ensures in
     omega (arith, below, c.functions.invariant.count, c.requires.count)
 
 pub functions-preserved : goal.functions-preserved

@@ -1,5 +1,5 @@
 use Rattle.std.proofs.Common.{length, sym, ap, ◌∙◌, arith}
-use Rattle.ctw_module.specs.Trees.{tree}
+use Rattle.ctw_module.specs.Trees.{view_module}
 use Rattle.ctw_link.proofs.EntryBounds.{functions_below, few_elements}
 use Rattle.ctw_link.proofs.Folding.{folded_more, folded_all, none_past}
 use Rattle.ctw_link.proofs.users.EntriesUsed.take_elements.Goals as goal
@@ -8,7 +8,7 @@ pub returns-in_default-clause-entries : goal.returns-in_default-clause-entries
 returns-in_default-clause-entries c = folded_all _ _ _ _ _ c.elements.i (none_past _ _ (sym c.in_default.ensures)) c.elements.invariant.taken
 
 pub take_element-requires-clause-functions : goal.take_element-requires-clause-functions
-take_element-requires-clause-functions c = functions_below (tree c.args.m.now) c.elements.i c.in-Some.element c.requires.valid (sym c.in-Some.ensures)
+take_element-requires-clause-functions c = functions_below (view_module c.args.m.now) c.elements.i c.in-Some.element c.requires.valid (sym c.in-Some.ensures)
 
 pub elements-preserved : goal.elements-preserved
 elements-preserved c = record {

@@ -1,5 +1,5 @@
 use Rattle.std.proofs.Common.{arith}
-use Rattle.ctw_module.specs.Limits.{most_params, most_locals}
+use Rattle.ctw_ops.specs.Limits.{most_params, most_locals}
 use Rattle.ctw_module.specs.Trees.{tree}
 use Rattle.ctw_module.proofs.Functions.{view_at, defined}
 use Rattle.ctw_module.proofs.LocalTypes.{locals_size}

@@ -1,0 +1,4 @@
+pub mod Made
+pub mod Pages
+pub mod Answers
+pub mod Held

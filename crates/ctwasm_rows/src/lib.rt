@@ -1,0 +1,13 @@
+//! Tests of the command line: worked rows, and tables of words, files and answers.
+#![tactic(auto)]
+
+#[cfg(test)]
+mod calls;
+#[cfg(test)]
+mod links;
+#[cfg(test)]
+mod modules;
+#[cfg(test)]
+mod rows;
+#[cfg(test)]
+mod runs;
