@@ -1,0 +1,27 @@
+pub mod TagPass
+pub mod Walk
+pub mod FactLaws
+pub mod PlaceLaws
+pub mod NumberLaws
+pub mod ObeyLaws
+pub mod UserLaws
+pub mod FlatSiteLaws
+pub mod FlatFactLaws
+pub mod Contexts
+pub mod Trusts
+pub mod UseLaws
+pub mod GlobalLaws
+pub mod TrustLaws
+pub mod PlainLaws
+pub mod BodyLaws
+pub mod AroundLaws
+pub mod FormedLaws
+pub mod ModuleLaws
+pub mod VariantLaws
+pub mod Right
+pub mod EraseLaws
+pub mod BodyOps
+pub mod SiteLaws
+pub mod NameLaws
+pub mod OrderLaws
+mod Examples

@@ -1,0 +1,12 @@
+pub mod Names
+pub mod Sited
+pub mod Numbering
+pub mod Links
+pub mod Points
+pub mod Kept
+pub mod SitedModule
+pub mod ModuleLinks
+pub mod Placed
+pub mod Fits
+pub mod FlatSites
+pub mod Collected

@@ -1,0 +1,14 @@
+pub mod Moves
+pub mod Back
+pub mod BackWords
+pub mod Runs
+pub mod Exact
+pub mod PrintedTexts
+pub mod PrintedCode
+pub mod Printed
+pub mod Lexing
+pub mod Stops
+pub mod DenotedTexts
+pub mod FaultyTexts
+pub mod Table
+pub mod Viable
