@@ -1,7 +1,8 @@
 -- Bytes of pages by their places.
-use Rattle.std.proofs.Common.{◌≡◌, ℕ, zero, suc, ◌+◌, ◌-◌, ◌*◌, ◌/◌, ◌%◌, ◌<◌, ◌≤◌, Bool, true, List, [], ◌∷◌, ◌++◌, Option, option_map, flat_map, length, get_or, All, Some, slice_get, slice_set, refl, sym, ap, ap₂, ◌∙◌, subst, arith, replicate, take, drop, length-append, length-drop, append_assoc}
+use Rattle.std.proofs.Common.{◌≡◌, ℕ, zero, suc, ◌+◌, ◌-◌, ◌*◌, ◌/◌, ◌%◌, ◌<◌, ◌≤◌, Bool, true, false, nat_lt, List, [], ◌∷◌, ◌++◌, Option, option_map, flat_map, length, get_or, All, Some, slice_get, slice_set, refl, sym, ap, ap₂, ◌∙◌, subst, arith, replicate, take, drop, length-append, length-drop, append_assoc}
 use Rattle.std.proofs.Math.Nat.{mul-suc}
 use Rattle.std.proofs.Math.Seq.{take-append-add, drop-append-add}
+use Rattle.std.proofs.lemmas.Bool.{ltb-true, ltb-false}
 use Rattle.std.proofs.lemmas.Grind.{flat_map-append}
 use Rattle.std.proofs.lemmas.List.{replicate-append-replicate, get_or_append_left, get_or-append_right, set-append_left, set-append_right, take-append-le, drop-append-le, length-replicate, drop-replicate, take-replicate, get_or-replicate, map-set}
 use Rattle.std.proofs.lemmas.List.Elements.{All-head, All-tail, All-set, All-append}
@@ -10,7 +11,7 @@ use Rattle.ctw_semantics.specs.Stores.{written_at}
 use Rattle.ctw_ops.proofs.Lists.{map_set_same}
 use Rattle.ctw_store.specs.declared.page.Page.{Page}
 use Rattle.ctw_store.specs.declared.page.Page.TheVariants.{Absent}
-use Rattle.ctw_store.specs.Pages.{zeros, bytes_in, is_made, IsPage, all_bytes, made_in, IsMadeIn, KeepsMadeIn}
+use Rattle.ctw_store.specs.Pages.{zeros, bytes_in, is_made, IsPage, all_bytes, made_in, IsMadeIn, KeepsMadeIn, AreMadeIn}
 
 -- ---- what is written into one of two lists
 
@@ -216,3 +217,18 @@ zeros_after n j c h = ap (take c) (drop-replicate {X = ℕ} j n 0) ∙ take-repl
 pub zeros_part : (j c : ℕ) → j + c ≤ 65536 → take c (drop j zeros) ≡ replicate c 0
 unfolding zeros
 zeros_part j c h = zeros_after 65536 j c h
+
+-- a page that some of the bytes lie in
+pub one_of_them : (made : List Bool) (at count index : ℕ) → AreMadeIn made at count → 0 < count → at / 65536 ≤ index → index < (at + count - 1) / 65536 + 1 → IsMadeIn made index
+one_of_them made at count index a some low high = from (nat_lt at (65536 * index)) refl
+  where
+    at_place : (i : ℕ) → at ≤ i → i < at + count → i / 65536 ≡ index → IsMadeIn made index
+    at_place i l h e = subst (IsMadeIn made) e (a i l h)
+
+    from : (b : Bool) → nat_lt at (65536 * index) ≡ b → IsMadeIn made index
+    from true t =
+        let l = ltb-true at (65536 * index) t in
+        at_place (65536 * index) (omega (arith, l)) (omega (arith, some, high)) (omega arith)
+    from false f =
+        let l = ltb-false at (65536 * index) f in
+        at_place at (omega arith) (omega (arith, some)) (omega (arith, l, low))

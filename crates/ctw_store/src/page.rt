@@ -245,6 +245,7 @@ pub fn make_all(
     ensures bytes { all_bytes pages.new ≡ all_bytes pages.old }
     ensures kept { KeepsMadeIn (made_in pages.old) (made_in pages.new) }
     ensures made { OnOk result (AreMadeIn (made_in pages.new) at count) }
+    ensures ready { AreMadeIn (made_in pages.old) at count → IfErr result (λ _. ⊥) }
 {
     if count == 0 {
         return Ok(());

@@ -1,4 +1,4 @@
-ghost use Rattle.std.specs.Prelude.{[], true, false, ◌≡◌, ◌≢◌, ◌≤◌, ◌<◌, ◌+◌, ◌*◌, ◌^◌, length, replicate, All, OnOk, IfOk, MatchResult, slice_get};
+ghost use Rattle.std.specs.Prelude.{[], true, false, ◌≡◌, ◌≢◌, ◌≤◌, ◌<◌, ◌+◌, ◌*◌, ◌^◌, length, replicate, All, OnOk, IfOk, IfErr, MatchResult, slice_get};
 ghost use Rattle.ctw_ops.specs.Limits.{page_size, most_memory_pages, most_set_pages};
 ghost use Rattle.ctw_semantics.specs.Stores.{Memory, Global as GlobalInstance, Table, Storage, fresh_memory, fresh_table, with_number, with_entry, pages, all_pages, most_pages_of};
 ghost use Rattle.ctw_store.specs.Made.{AreMade, KeepsMade};
@@ -177,7 +177,7 @@ impl Store {
     /// Makes the pages of so many bytes of a memory from a place on, which don't reach past its end. A `store` into
     /// these bytes then never lacks memory. All bytes, globals and entries are as before, whatever the answer.
     ///
-    /// The error is want of memory.
+    /// The error is want of memory, which can come only where one of these pages isn't made.
     #[tactic(auto, unfolding(ctw_ops::specs::Limits::most_memory_pages))]
     pub fn make_ready(&mut self, mem: u32, at: u64, count: u32) -> Result<(), AllocError>
         requires there { mem < length self.old.storage.memories }
@@ -186,6 +186,7 @@ impl Store {
         ensures same { self.new.storage ≡ self.old.storage }
         ensures kept { KeepsMade self.old.made self.new.made }
         ensures made { OnOk result (AreMade self.new.made mem at count) }
+        ensures ready { AreMade self.old.made mem at count → IfErr result (λ _. ⊥) }
     {
         let alloc = self.alloc;
         make_all(

@@ -6,7 +6,7 @@ use Rattle.ctw_store.specs.declared.page.Page.{Page}
 use Rattle.ctw_store.specs.declared.store.Paged.{Paged}
 use Rattle.ctw_store.specs.Pages.{all_bytes, made_in, IsPage, KeepsMadeIn, AreMadeIn}
 use Rattle.ctw_store.specs.Held.{memory_of, made_of}
-use Rattle.ctw_store.proofs.Holding.{memory_read, there_memory, same_here, keeps_here, made_here_now, held_here}
+use Rattle.ctw_store.proofs.Holding.{memory_read, there_memory, same_here, keeps_here, ready_here, made_here_now, held_here}
 use Rattle.ctw_store.proofs.store.Store.make_ready.Goals as goal
 
 pub make_all-requires-clause-inside : goal.make_all-requires-clause-inside
@@ -57,3 +57,11 @@ returns-clause-made c =
     let k : q.pages.items ≡ c.make_all.new.pages = with_items_is p.pages c.make_all.new.pages (c.make_all.auto.pages ∙ c.deref_mut.ensures.len) in
     on_ok_weaker c.make_all.result (λ o. made_here_now s.memories.items s.globals.items s.tables.items c.args.self.now c.self.view_is c.args.mem p g q refl c.args.at c.args.count
     (subst (λ (b : List Page). AreMadeIn (made_in b) c.args.at c.args.count) (sym k) o)) c.make_all.ensures.made
+
+pub returns-clause-ready : goal.returns-clause-ready
+returns-clause-ready c = λ a.
+    let s = c.self.inside in
+    let p = c.index_mut.result.now in
+    let g = memory_read s.memories.items s.globals.items s.tables.items c.args.self.now c.self.view_is c.args.mem p c.requires.there c.index_mut.ensures.value in
+    let r = ready_here s.memories.items s.globals.items s.tables.items c.args.self.now c.self.view_is c.args.mem p g c.args.at c.args.count a in
+    c.make_all.ensures.ready (subst (λ (b : List Page). AreMadeIn (made_in b) c.args.at c.args.count) (sym c.deref_mut.ensures.value) r)
