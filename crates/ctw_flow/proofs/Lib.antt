@@ -6,3 +6,7 @@ pub mod Trails
 pub mod Begin
 pub mod Rows
 pub mod OneRow
+pub mod Packed
+pub mod Added
+pub mod Sorting
+pub mod Placing

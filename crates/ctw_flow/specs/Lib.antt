@@ -1,3 +1,5 @@
 pub mod Graph
+pub mod Rows
+pub mod Sorted
 pub mod Path
 pub mod Search
