@@ -1,6 +1,6 @@
 pub mod Ops
 pub mod Rows
-pub mod Targets
+pub mod TargetBytes
 pub mod Places
 pub mod Bodies
 pub mod Balance
@@ -9,5 +9,8 @@ pub mod Positions
 pub mod Marks
 pub mod Halves
 pub mod Built
-pub mod Small
 pub mod FaultKinds
+pub mod Closers
+pub mod Accesses
+pub mod OpcodeBytes
+pub mod TypeBytes

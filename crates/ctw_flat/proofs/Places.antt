@@ -40,24 +40,21 @@ instr_moves code at op next e =
     let p = ok_is {F = CodeFault} (c.0.0, c.0.1.at) (op, next) c.2 in
     (c.0.1, c.1 ∙ ap (λ (z : Op Label × ℕ). Ok (z.0, c.0.1)) p, ap (λ (z : Op Label × ℕ). z.1) p)
 
--- a cursor that was made anew stands where the first one stands
-same_input : (code : List ℕ) (i ahead : Input) → ahead.at ≡ i.at → ahead.rest ≡ i.rest → i ≡ from code i.at → ahead ≡ from code i.at
-same_input code i ahead a r e = ap (λ (n : ℕ). record { at = n; rest = ahead.rest }) a ∙ ap (λ (l : List ℕ). record { at = i.at; rest = l }) r ∙ e
+-- what is read by a second cursor at a place of a body
+read_here : (code : List ℕ) (i ahead : Input) (r : Result (Op Label × Input) CodeFault) → ahead ≡ i → i ≡ from code i.at → op_at ahead ≡ r → op_at (from code i.at) ≡ r
+read_here code i ahead r s e h = ap op_at (sym (s ∙ e)) ∙ h
 
-read_here : (code : List ℕ) (i ahead : Input) (r : Result (Op Label × Input) CodeFault) → ahead.at ≡ i.at → ahead.rest ≡ i.rest → i ≡ from code i.at → op_at ahead ≡ r → op_at (from code i.at) ≡ r
-read_here code i ahead r a l e h = ap op_at (sym (same_input code i ahead a l e)) ∙ h
-
-pub walks : (code : List ℕ) (i ahead o : Input) (op : Op Label) → ahead.at ≡ i.at → ahead.rest ≡ i.rest → i ≡ from code i.at → op_at ahead ≡ Ok (op, o) → instr_in code i.at ≡ Ok (op, o.at)
+pub walks : (code : List ℕ) (i ahead o : Input) (op : Op Label) → ahead ≡ i → i ≡ from code i.at → op_at ahead ≡ Ok (op, o) → instr_in code i.at ≡ Ok (op, o.at)
 unfolding instr_in
-walks code i ahead o op a l e h = rw (read_here code i ahead (Ok (op, o)) a l e h) refl
+walks code i ahead o op s e h = rw (read_here code i ahead (Ok (op, o)) s e h) refl
 
-pub walk_stops : (code : List ℕ) (i ahead : Input) (f : CodeFault) → ahead.at ≡ i.at → ahead.rest ≡ i.rest → i ≡ from code i.at → op_at ahead ≡ Err f → instr_in code i.at ≡ Err f
+pub walk_stops : (code : List ℕ) (i ahead : Input) (f : CodeFault) → ahead ≡ i → i ≡ from code i.at → op_at ahead ≡ Err f → instr_in code i.at ≡ Err f
 unfolding instr_in
-walk_stops code i ahead f a l e h = rw (read_here code i ahead (Err f) a l e h) refl
+walk_stops code i ahead f s e h = rw (read_here code i ahead (Err f) s e h) refl
 
-pub walk_stays : (code : List ℕ) (i ahead o : Input) (op : Op Label) → ahead.at ≡ i.at → ahead.rest ≡ i.rest → i ≡ from code i.at → i.at ≤ length code → op_at ahead ≡ Ok (op, o) → (o ≡ from code o.at) × (o.at ≤ length code)
-walk_stays code i ahead o op a l e le h =
-    let m = moves code i.at op o le (read_here code i ahead (Ok (op, o)) a l e h) in
+pub walk_stays : (code : List ℕ) (i ahead o : Input) (op : Op Label) → ahead ≡ i → i ≡ from code i.at → i.at ≤ length code → op_at ahead ≡ Ok (op, o) → (o ≡ from code o.at) × (o.at ≤ length code)
+walk_stays code i ahead o op s e le h =
+    let m = moves code i.at op o le (read_here code i ahead (Ok (op, o)) s e h) in
     (m.2, m.1)
 
 pub instr_behind : (code : List ℕ) (at : ℕ) (op : Op Label) (next : ℕ) → at ≤ length code → instr_in code at ≡ Ok (op, next) → (at < next) × (next ≤ length code)

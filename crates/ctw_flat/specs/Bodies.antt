@@ -58,7 +58,9 @@ stepped around at x = if allows around x.0 then Ok x else Err (fault Unbalanced 
 -- the next opcode; the nesting is looked at before what stands behind the opcode's byte
 abbrev pub step_at : List Bool → Reader (Op Label) CodeFault
 step_at [] i = Err (fault Unbalanced i.at)
-step_at (b ∷ outer) i = if is_full (b ∷ outer) && opens_block i.rest then Err (fault TooDeep i.at) else chain (op_at i) (stepped (b ∷ outer) i.at)
+step_at (b ∷ outer) i =
+    if is_full (b ∷ outer) && opens_block i.rest then Err (fault TooDeep i.at)
+    else chain (op_at i) (stepped (b ∷ outer) i.at)
 
 abbrev pub settled : ℕ → Option (Code Label) → Result (Code Label) CodeFault
 settled at (Some code) = Ok code

@@ -1,8 +1,10 @@
 -- What an instruction in place stands for.
-use Rattle.std.specs.Prelude.{◌≡◌, ℕ, true, false, List, [], Result, Ok, Err}
+use Rattle.std.specs.Prelude.{◌≡◌, ◌≤◌, ◌*◌, ◌⊎◌, ℕ, true, false, List, [], Result, Ok, Err}
 use Rattle.ctw_ops.specs.declared.types.Label.{Label}
-use Rattle.ctw_ops.specs.Types.{FitsWidth}
+use Rattle.ctw_ops.specs.declared.types.Width.{Width}
+use Rattle.ctw_ops.specs.Types.{FitsWidth, bit_width}
 use Rattle.ctw_ops.specs.Forms.{is_load, is_store}
+use Rattle.ctw_ops.specs.Numeric.{is_numeric}
 use Rattle.ctw_ops.specs.Code as ops
 use Rattle.ctw_ops.specs.Code.{Op, Plain}
 use Rattle.ctw_leb.specs.Grammar.{Times}
@@ -59,8 +61,8 @@ op_of (instr.Numeric op label) = Plain (ops.Numeric op label)
 op_of (instr.Classify width) = Plain (ops.Classify width)
 op_of (instr.Declassify width) = Plain (ops.Declassify width)
 
--- the lent bytes of a branch table spell its targets and nothing else, loads and stores have a form that is listed, a store isn't
--- signed, and a constant's bits fit its width
+-- the lent bytes of a branch table spell its targets and nothing else, loads and stores have a form that is listed, a
+-- store isn't signed, and a constant's bits fit its width
 abbrev pub IsExactly : Instr → Type 0
 IsExactly (instr.BrTable targets count otherwise) = Times IsU32 count targets.now (targets_in count targets.now)
 IsExactly (instr.Load width label bytes signed align offset) = is_load width bytes signed ≡ true
@@ -68,11 +70,20 @@ IsExactly (instr.Store width label bytes signed align offset) = (signed ≡ fals
 IsExactly (instr.Const width label bits) = FitsWidth width bits
 IsExactly _ = Unit {0}
 
+-- 1, 2, 4 or 8 bytes that are no more than a width has
+abbrev pub IsSize : Width → ℕ → Type 0
+IsSize width bytes = ((bytes ≡ 1) ⊎ ((bytes ≡ 2) ⊎ ((bytes ≡ 4) ⊎ (bytes ≡ 8)))) × (8 * bytes ≤ bit_width width)
+
 -- the same of what an opcode's byte stands for
 abbrev pub IsListed : Form → Type 0
 IsListed (form.Access (access.Load width bytes signed)) = is_load width bytes signed ≡ true
 IsListed (form.Access (access.Store width bytes)) = is_store width bytes ≡ true
 IsListed _ = Unit {0}
+
+-- the forms that have an opcode: numeric operations, loads and stores that are listed, and all others
+abbrev pub IsOpcode : Form → Type 0
+IsOpcode (form.Numeric op) = is_numeric op ≡ true
+IsOpcode f = IsListed f
 
 abbrev pub IsListedFirst : First → Type 0
 IsListedFirst Prefix = Unit {0}

@@ -1,5 +1,5 @@
 -- The reader of opcodes on lists: the opcode at the front, or the first fault.
-use Rattle.std.specs.Prelude.{ℕ, ◌+◌, length, List, [], ◌∷◌, Option, Some, None, Result, Ok, Err, nat_lt, if◌then◌else◌}
+use Rattle.std.specs.Prelude.{ℕ, ◌+◌, length, List, Option, Result, Ok, Err}
 use Rattle.ctw_ops.specs.ValueType.{ValueType}
 use Rattle.ctw_ops.specs.declared.types.Label.{Label}
 use Rattle.ctw_ops.specs.declared.types.Label.TheVariants.{Public, Secret}
@@ -50,11 +50,6 @@ bits32_at = faulted of_leb s32_at
 
 unfoldable pub bits64_at : Reader ℕ CodeFault
 bits64_at = faulted of_leb s64_at
-
--- a number of one byte at the front
-abbrev pub small_in : List ℕ → Option ℕ
-small_in [] = None
-small_in (byte ∷ rest) = if nat_lt byte 128 then Some byte else None
 
 -- so many indexes one after another
 unfoldable pub indexes_at : ℕ → Reader (List ℕ) CodeFault

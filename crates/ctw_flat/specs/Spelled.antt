@@ -1,4 +1,5 @@
--- Which bytes spell an instruction's opcode and a body (W3C WebAssembly Core 1.0, section 5.4, without floats; and those of CT-Wasm).
+-- Which bytes spell an instruction's opcode and a body (W3C WebAssembly Core 1.0, section 5.4, without floats;
+-- and those of CT-Wasm).
 use Rattle.std.specs.Prelude.{◌≤◌, ℕ, suc, max, List}
 use Rattle.ctw_ops.specs.declared.types.Label.{Label}
 use Rattle.ctw_ops.specs.declared.types.Label.TheVariants.{Public, Secret}

@@ -3,7 +3,7 @@ ghost use Rattle.ctw_ops.specs.declared.types.Label.{Label};
 ghost use Rattle.ctw_ops.specs.Code.{Code};
 ghost use Rattle.ctw_flat.specs.Spelled.{IsLimitedBody};
 ghost use Rattle.ctw_flat.specs.Places.{Placed, Stand, from};
-ghost use Rattle.ctw_flat.specs.Bodies.{body_at};
+ghost use Rattle.ctw_flat.specs.Bodies.{body_at, own_body};
 ghost use Rattle.ctw_flat.specs.Blocks.{blocks_of, ends_in};
 ghost use Rattle.ctw_flat.specs.Marks.{mark_closings, mark_blocks, closings_in, blocks_in};
 ghost use Rattle.ctw_flat.specs.Positions.{TellsEnds};
@@ -11,7 +11,7 @@ ghost use Rattle.ctw_flat.specs.Calls.{FailsWith, IsOkButMemory};
 
 use crate::body::Body;
 use crate::fault::BuildFault;
-use crate::nesting::marks;
+use crate::nesting::{Nesting, mark};
 use std::alloc::{AllocError, Global};
 use std::marker::Model;
 
@@ -61,8 +61,10 @@ fn take_mark(
     found: &mut Vec<Block>,
     mark: Mark,
 ) -> Result<(), AllocError>
-    ensures closings { OnOk result (reverse closings.new.items ≡ mark_closings mark.role mark.at (reverse closings.old.items)) }
-    ensures blocks { OnOk result (reverse found.new.items ≡ mark_blocks mark.role mark.at (reverse closings.old.items) (reverse found.old.items)) }
+    ensures closings { OnOk result (reverse closings.new.items
+        ≡ mark_closings mark.role mark.at (reverse closings.old.items)) }
+    ensures blocks { OnOk result (reverse found.new.items
+        ≡ mark_blocks mark.role mark.at (reverse closings.old.items) (reverse found.old.items)) }
 {
     match mark.role {
         Role::Begins => {
@@ -90,16 +92,20 @@ fn take_mark(
     Ok(())
 }
 
-/// The blocks that begin among marks, from the last mark to the first.
-fn blocks_among(alloc: Global, marks: &[Mark]) -> Result<Vec<Block>, AllocError>
+/// The blocks that begin among marks, from the last mark to the first; `closings` is what it works in.
+fn blocks_among(
+    alloc: Global,
+    closings: &mut Vec<Closing>,
+    marks: &[Mark],
+) -> Result<Vec<Block>, AllocError>
     ensures { IfOk result (λ v. v.items ≡ blocks_in marks.now) }
 {
-    let mut closings = Vec::new(alloc);
+    closings.clear();
     let mut found = Vec::new(alloc);
     let mut left = marks.len();
     'back: while left > 0 {
         left -= 1;
-        take_mark(&mut closings, &mut found, marks[left])?;
+        take_mark(closings, &mut found, marks[left])?;
     }
     found.reverse();
     Ok(found)
@@ -159,7 +165,50 @@ pub fn build(alloc: Global, body: &Body) -> Result<BlockMap, BuildFault>
     ensures complete { (code : Code Label) → IsLimitedBody body.now code → IsOkButMemory result }
     ensures fault { IfErr result (λ e. FailsWith e (body_at (from body.now 0))) }
 {
-    let marks = marks(alloc, body.code())?;
-    let found = blocks_among(alloc, marks.as_slice())?;
-    Ok(BlockMap { found })
+    let mut builder = BlockBuilder::new(alloc)?;
+    builder.build(alloc, body)
+}
+
+/// What finds where the blocks of bodies end, one body after another in the same memory. Contracts see what is open in
+/// the body that it reads.
+#[derive(Drop)]
+pub struct BlockBuilder {
+    nesting: Nesting,
+    marks: Vec<Mark>,
+    closings: Vec<Closing>,
+}
+
+impl Model for BlockBuilder {
+    ghost use Rattle.std.specs.Prelude.{List, Bool};
+
+    ghost Value = { List Bool };
+
+    ghost view = { λ b. b.nesting };
+}
+
+impl BlockBuilder {
+    /// In front of a first body. `Err` where memory runs out.
+    pub fn new(alloc: Global) -> Result<BlockBuilder, AllocError>
+        ensures { IfOk result (λ b. b ≡ own_body) }
+    {
+        Ok(BlockBuilder {
+            nesting: Nesting::new(alloc)?,
+            marks: Vec::new(alloc),
+            closings: Vec::new(alloc),
+        })
+    }
+
+    /// What `build` answers. It takes memory of its own only for a body with blocks,
+    /// or one that is larger than those before.
+    pub fn build(&mut self, alloc: Global, body: &Body) -> Result<BlockMap, BuildFault>
+        ensures found { IfOk result (λ map. (code : Code Label) × IsLimitedBody body.now code) }
+        ensures ends { IfOk result (λ map. TellsEnds body.now (ends_in map)) }
+        ensures blocks { IfOk result (λ map. (ps : List Placed) × Stand body.now 0 ps × (map ≡ blocks_of ps)) }
+        ensures complete { (code : Code Label) → IsLimitedBody body.now code → IsOkButMemory result }
+        ensures fault { IfErr result (λ e. FailsWith e (body_at (from body.now 0))) }
+    {
+        mark(&mut self.nesting, &mut self.marks, body.code())?;
+        let found = blocks_among(alloc, &mut self.closings, self.marks.as_slice())?;
+        Ok(BlockMap { found })
+    }
 }

@@ -54,9 +54,11 @@ impl<'a> Body<'a> {
         ensures instr { Gives (λ x. (op_of x.0, x.1)) result (instr_in self.now at) }
         ensures exactly { IfOk result (λ x. IsExactly x.0) }
         ensures behind { IfOk result (λ x. (at < x.1) × (x.1 ≤ length self.now)) }
-        ensures spelled { IfOk result (λ x. (text after : List ℕ) × IsOp text (op_of x.0) × (drop at self.now ≡ text ++ after) × (x.1 ≡ at + length text)) }
+        ensures spelled { IfOk result (λ x. (text after : List ℕ) × IsOp text (op_of x.0)
+            × (drop at self.now ≡ text ++ after) × (x.1 ≡ at + length text)) }
         ensures kinds { IfErr result (λ fault. IsInstrKind fault.kind) }
-        ensures found { (text after : List ℕ) (op : Op Label) → IsOp text op → drop at self.now ≡ text ++ after → IsOk result }
+        ensures found { (text after : List ℕ) (op : Op Label) → IsOp text op → drop at self.now ≡ text ++ after
+            → IsOk result }
     {
         read_at(self.code, at)
     }

@@ -17,7 +17,8 @@ pub enum CodeKind {
     Floats,
     /// The byte at the place is no block type.
     BadBlockType,
-    /// The place has an `else` without an `if` or code behind the closing `end`, or is the slice's length with blocks open.
+    /// The place has an `else` without an `if` or code behind the closing `end`,
+    /// or is the slice's length with blocks open.
     Unbalanced,
     /// The opcode at the place opens a block inside 4,096 others.
     TooDeep,

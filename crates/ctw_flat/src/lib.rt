@@ -9,12 +9,17 @@ pub mod laws;
 mod nesting;
 mod opcode;
 mod reading;
+mod targets;
 mod walk;
 
-pub use blocks::{Block, BlockMap, build};
+pub use blocks::{Block, BlockBuilder, BlockMap, build};
 pub use body::Body;
 pub use fault::{BuildFault, CodeFault, CodeKind};
 pub use instr::Instr;
 pub use nesting::Nesting;
-pub use opcode::is_float_opcode;
+pub use opcode::{
+    Access, Bare, Form, Indexed, Opener, SECRET_PREFIX, byte_of_type, is_float_opcode, opcode_of,
+    type_of_byte,
+};
+pub use targets::Targets;
 pub use walk::Walk;

@@ -38,7 +38,8 @@ fn opens_block(cursor: &Cursor) -> bool
 #[inline(always)]
 fn shift(around: &mut Vec<bool>, instr: &Instr) -> Result<bool, AllocError>
     ensures allowed { IfOk result (λ r. r ≡ allows (reverse around.old.items) (op_of instr.now)) }
-    ensures shifted { IfOk result (λ r. r ≡ true → reverse around.new.items ≡ opened_by (reverse around.old.items) (op_of instr.now)) }
+    ensures shifted { IfOk result (λ r. r ≡ true
+        → reverse around.new.items ≡ opened_by (reverse around.old.items) (op_of instr.now)) }
 {
     match instr {
         Instr::Block { .. } | Instr::Loop { .. } | Instr::If { .. } => {
@@ -187,20 +188,21 @@ fn step(nesting: &mut Nesting, marks: &mut Vec<Mark>, cursor: &mut Cursor) -> Re
     }
 }
 
-/// The opcodes of a body that begin, part and end blocks, or the first fault.
-pub fn marks(alloc: Global, code: &[u8]) -> Result<Vec<Mark>, BuildFault>
+/// Notes the opcodes of a body that begin, part and end blocks, in place of what was noted before;
+/// else the first fault.
+pub fn mark(nesting: &mut Nesting, marks: &mut Vec<Mark>, code: &[u8]) -> Result<(), BuildFault>
     requires { length code.now < 2 ^ 32 }
     ensures checks { Checks result (body_at (record { at = 0; rest = code.now })) }
-    ensures marks { IfOk result (λ v. (ps : List Placed) × Stand code.now 0 ps × (v.items ≡ marks_of ps)) }
+    ensures marks { OnOk result ((ps : List Placed) × Stand code.now 0 ps × (marks.new.items ≡ marks_of ps)) }
 {
-    let mut nesting = Nesting::new(alloc)?;
-    let mut marks = Vec::new(alloc);
+    nesting.restart()?;
+    marks.clear();
     let mut cursor = Cursor::new(code, 0);
     'body: while cursor.left() > 0 {
-        step(&mut nesting, &mut marks, &mut cursor)?;
+        step(nesting, marks, &mut cursor)?;
     }
     if nesting.is_closed() {
-        return Ok(marks);
+        return Ok(());
     }
     Err(unbalanced(cursor.place()))
 }

@@ -1,9 +1,10 @@
 ghost use Rattle.std.specs.Prelude.{◌≡◌, true, Ok, IfOk, IfSome};
 ghost use Rattle.ctw_ops.specs.Forms.{is_load, is_store};
+ghost use Rattle.ctw_ops.specs.Types.{type_byte, byte_type};
 ghost use Rattle.ctw_flat.specs.declared.opcode.First.TheVariants.{Direct};
 ghost use Rattle.ctw_flat.specs.declared.opcode.Form.TheVariants.{Numeric};
 ghost use Rattle.ctw_flat.specs.Instructions.{IsListed, IsListedFirst};
-ghost use Rattle.ctw_flat.specs.Opcodes.{is_float, control_form, variable_form, load_form, store_form, memory_form, labelling_form, form, opcode, secret_form, block_type, reserved};
+ghost use Rattle.ctw_flat.specs.Opcodes.{is_float, control_form, variable_form, load_form, store_form, memory_form, labelling_form, form, opcode, secret_form, block_type, reserved, bare_opcode, opener_opcode, indexed_opcode, load_opcode, store_opcode, access_opcode, const_opcode, opcode_byte, prefix_byte};
 
 use crate::fault::CodeKind;
 use ctw_ops::{Label, NumOp, ValType, Width, num_op};
@@ -55,6 +56,9 @@ pub enum Access {
         bytes: u8,
     },
 }
+
+/// The byte in front of the opcode of a secret form.
+pub const SECRET_PREFIX: u8 = 0xE0;
 
 /// What an opcode's byte stands for.
 #[derive(Clone, Copy, Debug, PartialEq, Eq)]
@@ -242,7 +246,7 @@ pub fn first_of(byte: u8) -> Result<First, CodeKind>
     ensures first { result ≡ opcode byte }
     ensures listed { IfOk result (λ first. IsListedFirst first) }
 {
-    if byte == 0xE0 {
+    if byte == SECRET_PREFIX {
         return Ok(First::Prefix);
     }
     match form_of(byte) {
@@ -257,7 +261,7 @@ pub fn first_of(byte: u8) -> Result<First, CodeKind>
 pub fn numeric_of(byte: u8) -> Option<NumOp>
     ensures { IfSome result (λ op. opcode byte ≡ Ok (Direct (Numeric op))) }
 {
-    if byte <= 0x24 || byte == 0xE0 || is_float_opcode(byte) {
+    if byte <= 0x24 || byte == SECRET_PREFIX || is_float_opcode(byte) {
         return None;
     }
     num_op(byte)
@@ -278,21 +282,169 @@ pub fn secret_form_of(byte: u8) -> Result<Form, CodeKind>
     }
 }
 
+/// The opcode of an instruction with nothing behind it.
+fn bare_opcode_of(bare: Bare) -> u8
+    ensures { result ≡ bare_opcode bare }
+{
+    match bare {
+        Bare::Unreachable => 0x00,
+        Bare::Nop => 0x01,
+        Bare::Else => 0x05,
+        Bare::End => 0x0B,
+        Bare::Return => 0x0F,
+        Bare::Drop => 0x1A,
+        Bare::Classify(Width::W32) => 0xE1,
+        Bare::Classify(Width::W64) => 0xE2,
+        Bare::Declassify(Width::W32) => 0xE3,
+        Bare::Declassify(Width::W64) => 0xE4,
+    }
+}
+
+/// The opcode that opens a block.
+fn opener_opcode_of(opener: Opener) -> u8
+    ensures { result ≡ opener_opcode opener }
+{
+    match opener {
+        Opener::Block => 0x02,
+        Opener::Loop => 0x03,
+        Opener::If => 0x04,
+    }
+}
+
+/// The opcode of an instruction with an index behind it.
+fn indexed_opcode_of(indexed: Indexed) -> u8
+    ensures { result ≡ indexed_opcode indexed }
+{
+    match indexed {
+        Indexed::Br => 0x0C,
+        Indexed::BrIf => 0x0D,
+        Indexed::Call => 0x10,
+        Indexed::LocalGet => 0x20,
+        Indexed::LocalSet => 0x21,
+        Indexed::LocalTee => 0x22,
+        Indexed::GlobalGet => 0x23,
+        Indexed::GlobalSet => 0x24,
+    }
+}
+
+/// The opcode of a load.
+fn load_opcode_of(width: Width, bytes: u8, signed: bool) -> u8
+    ensures { result ≡ load_opcode width bytes signed }
+{
+    match (width, bytes, signed) {
+        (Width::W32, 1, true) => 0x2C,
+        (Width::W32, 1, false) => 0x2D,
+        (Width::W32, 2, true) => 0x2E,
+        (Width::W32, 2, false) => 0x2F,
+        (Width::W32, _, _) => 0x28,
+        (Width::W64, 1, true) => 0x30,
+        (Width::W64, 1, false) => 0x31,
+        (Width::W64, 2, true) => 0x32,
+        (Width::W64, 2, false) => 0x33,
+        (Width::W64, 4, true) => 0x34,
+        (Width::W64, 4, false) => 0x35,
+        (Width::W64, _, _) => 0x29,
+    }
+}
+
+/// The opcode of a store.
+fn store_opcode_of(width: Width, bytes: u8) -> u8
+    ensures { result ≡ store_opcode width bytes }
+{
+    match (width, bytes) {
+        (Width::W32, 1) => 0x3A,
+        (Width::W32, 2) => 0x3B,
+        (Width::W32, _) => 0x36,
+        (Width::W64, 1) => 0x3C,
+        (Width::W64, 2) => 0x3D,
+        (Width::W64, 4) => 0x3E,
+        (Width::W64, _) => 0x37,
+    }
+}
+
+/// The opcode of a load or a store.
+fn access_opcode_of(access: Access) -> u8
+    ensures { result ≡ access_opcode access }
+{
+    match access {
+        Access::Load {
+            width,
+            bytes,
+            signed,
+        } => load_opcode_of(width, bytes, signed),
+        Access::Store { width, bytes } => store_opcode_of(width, bytes),
+    }
+}
+
+/// The opcode of a constant.
+fn const_opcode_of(width: Width) -> u8
+    ensures { result ≡ const_opcode width }
+{
+    match width {
+        Width::W32 => 0x41,
+        Width::W64 => 0x42,
+    }
+}
+
+/// The opcode of a form: the byte that stands for it, where it is an opcode's.
+pub fn opcode_of(form: Form) -> u8
+    ensures { result ≡ opcode_byte form }
+{
+    match form {
+        Form::Bare(bare) => bare_opcode_of(bare),
+        Form::Opens(opener) => opener_opcode_of(opener),
+        Form::Indexed(indexed) => indexed_opcode_of(indexed),
+        Form::BrTable => 0x0E,
+        Form::CallIndirect => 0x11,
+        Form::MemorySize => 0x3F,
+        Form::MemoryGrow => 0x40,
+        Form::Select => 0x1B,
+        Form::Access(access) => access_opcode_of(access),
+        Form::Const(width) => const_opcode_of(width),
+        Form::Numeric(op) => op.code(),
+    }
+}
+
+/// The value type of a byte; None where it has none.
+#[inline(always)]
+pub fn type_of_byte(byte: u8) -> Option<ValType>
+    ensures { result ≡ byte_type byte }
+{
+    let (width, label) = match byte {
+        0x7F => (Width::W32, Label::Public),
+        0x7E => (Width::W64, Label::Public),
+        0x7A => (Width::W32, Label::Secret),
+        0x79 => (Width::W64, Label::Secret),
+        _ => return None,
+    };
+    Some(ValType { width, label })
+}
+
+/// The byte of a value type.
+pub fn byte_of_type(t: ValType) -> u8
+    ensures { result ≡ type_byte t }
+{
+    match (t.width, t.label) {
+        (Width::W32, Label::Public) => 0x7F,
+        (Width::W64, Label::Public) => 0x7E,
+        (Width::W32, Label::Secret) => 0x7A,
+        (Width::W64, Label::Secret) => 0x79,
+    }
+}
+
 /// The result that a byte gives a block.
 #[tactic(auto, unfolding(crate::specs::Opcodes::block_type))]
 pub fn block_type_of(byte: u8) -> Result<Option<ValType>, CodeKind>
     ensures { result ≡ block_type byte }
 {
-    let (width, label) = match byte {
-        0x40 => return Ok(None),
-        0x7F => (Width::W32, Label::Public),
-        0x7E => (Width::W64, Label::Public),
-        0x7A => (Width::W32, Label::Secret),
-        0x79 => (Width::W64, Label::Secret),
-        0x7C | 0x7D => return Err(CodeKind::Floats),
-        _ => return Err(CodeKind::BadBlockType),
-    };
-    Ok(Some(ValType { width, label }))
+    match byte {
+        0x40 => Ok(None),
+        0x7C | 0x7D => Err(CodeKind::Floats),
+        _ => match type_of_byte(byte) {
+            Some(t) => Ok(Some(t)),
+            None => Err(CodeKind::BadBlockType),
+        },
+    }
 }
 
 /// A byte that has to be 00.

@@ -1,12 +1,13 @@
-ghost use Rattle.std.specs.Prelude.{◌≡◌, ◌≤◌, ◌<◌, ◌^◌, ◌+◌, length, IfOk};
+ghost use Rattle.std.specs.Prelude.{ℕ, Result, ◌≡◌, ◌≤◌, ◌<◌, ◌^◌, ◌+◌, length, IfOk, Ok};
 ghost use Rattle.ctw_leb.specs.Grammar.{Times};
 ghost use Rattle.ctw_leb.specs.Numbers.{IsU32};
-ghost use Rattle.ctw_leb.specs.Calls.{Finds};
+ghost use Rattle.ctw_leb.specs.Calls.{Finds, Tabulates};
 ghost use Rattle.ctw_flat.specs.Spelled.{bare_op, shape_of, indexed_leaf, access_leaf};
-ghost use Rattle.ctw_flat.specs.Read.{of_leb, small_in, block_type_at, reserved_at, index_at, indexes_at, bits32_at, bits64_at, branch_table_at, access_at, constant_at, immediate_at, secret_at, behind_at, op_at, behind_byte_at};
+ghost use Rattle.ctw_flat.specs.Read.{of_leb, by_table, block_type_at, reserved_at, index_at, indexes_at, bits32_at, bits64_at, branch_table_at, access_at, constant_at, immediate_at, secret_at, behind_at, op_at, behind_byte_at};
 ghost use Rattle.ctw_flat.specs.Instructions.{op_of, targets_in, IsExactly, IsListed, IsListedFirst};
 ghost use Rattle.ctw_ops.specs.Code.{Plain, Opens, Numeric};
 ghost use Rattle.ctw_ops.specs.declared.types.Label.TheVariants.{Public};
+ghost use Rattle.ctw_flat.specs.declared.fault.CodeKind.{CodeKind};
 ghost use Rattle.ctw_flat.specs.Opcodes.{opcode};
 ghost use Rattle.ctw_flat.specs.declared.opcode.Form.TheVariants as form;
 
@@ -20,6 +21,7 @@ use ctw_leb::{Cursor, LebFault};
 use ctw_ops::{Label, NumOp, ValType, Width};
 
 /// The fault of a number where the cursor stands.
+#[inline(never)]
 fn number_fault(cursor: &Cursor, fault: LebFault) -> CodeFault
     ensures { result ≡ of_leb cursor.now fault }
 {
@@ -35,72 +37,45 @@ fn number_fault(cursor: &Cursor, fault: LebFault) -> CodeFault
     }
 }
 
+/// One byte by a table.
+#[inline(always)]
+fn byte_by<T, F: FnOnce(u8) -> Result<T, CodeKind> + Drop>(
+    cursor: &mut Cursor,
+    table: F,
+) -> Result<T, CodeFault>
+    requires { F.IsAlwaysCallable table }
+    ensures read { (rows : ℕ → Result T CodeKind) → Tabulates (F.post table) rows →
+        Finds (λ x. x) result cursor.new (by_table rows cursor.old) }
+    ensures row { IfOk result (λ x. (byte : ℕ) × F.post table byte (Ok x)) }
+{
+    match cursor.by_table(CodeKind::Truncated, table) {
+        Ok(found) => Ok(found),
+        Err((kind, place)) => Err(CodeFault { kind, place }),
+    }
+}
+
 /// The result of a block.
 #[inline(always)]
-#[tactic(auto, using(crate::proofs::Rows::block_ok, crate::proofs::Rows::block_bad, crate::proofs::Rows::block_short))]
+#[tactic(auto, unfolding(crate::specs::Read::block_type_at))]
 fn block_type(cursor: &mut Cursor) -> Result<Option<ValType>, CodeFault>
     ensures { Finds (λ t. t) result cursor.new (block_type_at cursor.old) }
 {
-    let place = cursor.place();
-    match cursor.byte() {
-        Ok(byte) => match block_type_of(byte) {
-            Ok(result) => Ok(result),
-            Err(kind) => Err(CodeFault { kind, place }),
-        },
-        Err(_) => Err(CodeFault {
-            kind: CodeKind::Truncated,
-            place,
-        }),
-    }
+    byte_by(cursor, block_type_of)
 }
 
 /// A byte that has to be 00.
 #[inline(always)]
-#[tactic(auto, using(crate::proofs::Rows::reserved_ok, crate::proofs::Rows::reserved_bad, crate::proofs::Rows::reserved_short))]
+#[tactic(auto, unfolding(crate::specs::Read::reserved_at))]
 fn reserved(cursor: &mut Cursor) -> Result<(), CodeFault>
     ensures { Finds (λ u. tt) result cursor.new (reserved_at cursor.old) }
 {
-    let place = cursor.place();
-    match cursor.byte() {
-        Ok(byte) => match reserved_of(byte) {
-            Ok(()) => Ok(()),
-            Err(kind) => Err(CodeFault { kind, place }),
-        },
-        Err(_) => Err(CodeFault {
-            kind: CodeKind::Truncated,
-            place,
-        }),
-    }
-}
-
-/// A number of one byte at the cursor, which is the most common spelling of an index.
-#[inline(always)]
-fn small_index(cursor: &Cursor) -> Option<u8>
-    ensures { result ≡ small_in cursor.now.rest }
-{
-    match cursor.rest() {
-        [byte, ..] if *byte < 0x80 => Some(*byte),
-        _ => None,
-    }
+    byte_by(cursor, reserved_of)
 }
 
 /// An index, a depth, an alignment or an offset.
 #[inline(always)]
-#[tactic(auto, using(crate::proofs::Small::small_is_index))]
-fn index(cursor: &mut Cursor) -> Result<u32, CodeFault>
-    ensures { Finds (λ n. n) result cursor.new (index_at cursor.old) }
-{
-    if let Some(byte) = small_index(cursor) {
-        let _ = cursor.byte();
-        return Ok(u32::from(byte));
-    }
-    long_index(cursor)
-}
-
-/// The same of any spelling.
-#[inline(never)]
 #[tactic(auto, unfolding(crate::specs::Read::index_at))]
-fn long_index(cursor: &mut Cursor) -> Result<u32, CodeFault>
+fn index(cursor: &mut Cursor) -> Result<u32, CodeFault>
     ensures { Finds (λ n. n) result cursor.new (index_at cursor.old) }
 {
     match cursor.read_u32() {
@@ -315,22 +290,13 @@ fn immediate<'a>(cursor: &mut Cursor<'a>, label: Label, form: Form) -> Result<In
 
 /// The instruction behind a prefix.
 #[inline(always)]
-#[tactic(auto, using(crate::proofs::Rows::secret_ok, crate::proofs::Rows::secret_bad, crate::proofs::Rows::secret_short))]
+#[tactic(auto, unfolding(crate::specs::Read::secret_at))]
 fn secret<'a>(cursor: &mut Cursor<'a>) -> Result<Instr<'a>, CodeFault>
     ensures instr { Finds op_of result cursor.new (secret_at cursor.old) }
     ensures exactly { IfOk result (λ i. IsExactly i) }
 {
-    let place = cursor.place();
-    match cursor.byte() {
-        Ok(byte) => match secret_form_of(byte) {
-            Ok(form) => immediate(cursor, Label::Secret, form),
-            Err(kind) => Err(CodeFault { kind, place }),
-        },
-        Err(_) => Err(CodeFault {
-            kind: CodeKind::Truncated,
-            place,
-        }),
-    }
+    let form = byte_by(cursor, secret_form_of)?;
+    immediate(cursor, Label::Secret, form)
 }
 
 /// What stands behind the first byte.
@@ -369,7 +335,7 @@ fn opening<'a>(cursor: &mut Cursor<'a>, opener: Opener) -> Result<Instr<'a>, Cod
 }
 
 /// What stands behind any first byte.
-#[inline(always)]
+#[inline(never)]
 fn behind_any<'a>(cursor: &mut Cursor<'a>, byte: u8, place: u32) -> Result<Instr<'a>, CodeFault>
     ensures instr { Finds op_of result cursor.new (behind_byte_at (opcode byte) place cursor.old) }
     ensures exactly { IfOk result (λ i. IsExactly i) }

@@ -25,7 +25,8 @@ impl<'a> Model for Walk<'a> {
 
     ghost view = { λ w. record { bytes = w.code.now; place = w.cursor.at } };
 
-    ghost invariant = { λ w. (w.cursor ≡ from w.code.now w.cursor.at) × (w.cursor.at ≤ length w.code.now) × (length w.code.now < 2 ^ 32) };
+    ghost invariant = { λ w. (w.cursor ≡ from w.code.now w.cursor.at) × (w.cursor.at ≤ length w.code.now)
+        × (length w.code.now < 2 ^ 32) };
 }
 
 impl<'a> Walk<'a> {
@@ -49,8 +50,7 @@ impl<'a> Walk<'a> {
         ensures more { result ≡ false → self.now.place < length self.now.bytes }
         ensures short { length self.now.bytes < 2 ^ 32 }
     {
-        let _ = &self.code;
-        self.cursor.left() == 0
+        self.cursor.place() as usize == self.code.len()
     }
 
     /// The next instruction, behind which the walk then stands; else the first fault, and the walk stays.
@@ -61,9 +61,7 @@ impl<'a> Walk<'a> {
         ensures bytes { self.new.bytes ≡ self.old.bytes }
         ensures kept { OnErr result (self.new ≡ self.old) }
     {
-        let _ = &self.code;
-        let _left = self.cursor.left();
-        let mut ahead = Cursor::new(self.cursor.rest(), self.cursor.place());
+        let mut ahead = self.cursor.duplicate();
         match read_instr(&mut ahead) {
             Ok(instr) => {
                 self.cursor = ahead;

@@ -27,4 +27,5 @@ IsWithin limit Missing = Unit {0}
 
 -- the files after a save that failed: as before, or with a prefix of the bytes under the name
 abbrev pub IsHalfSaved : Files → List ℕ → List ℕ → Option Files → Type 0
-IsHalfSaved before name bytes after = (after ≡ Some before) ⊎ ((count : ℕ) × (after ≡ Some (insert before name (take count bytes))))
+IsHalfSaved before name bytes after =
+    (after ≡ Some before) ⊎ ((count : ℕ) × (after ≡ Some (insert before name (take count bytes))))

@@ -41,7 +41,10 @@ pub record MemFiles : Type 0 where
   pub faults : ℕ
 
 abbrev pub mem_files_code : Coded MemFiles
-mem_files_code = code_by (Files × (List ℕ × (ℕ × ℕ))) (coded× files_code (coded× (coded_list coded_ℕ) (coded× coded_ℕ coded_ℕ))) (λ s. (s.files, (s.fails, (s.calls, s.faults)))) (λ p. record { files = p.0; fails = p.1.0; calls = p.1.1.0; faults = p.1.1.1 }) (λ _. refl)
+mem_files_code =
+    code_by (Files × (List ℕ × (ℕ × ℕ))) (coded× files_code (coded× (coded_list coded_ℕ) (coded× coded_ℕ coded_ℕ)))
+    (λ s. (s.files, (s.fails, (s.calls, s.faults))))
+    (λ p. record { files = p.0; fails = p.1.0; calls = p.1.1.0; faults = p.1.1.1 }) (λ _. refl)
 
 -- a shelf that doesn't fail
 pub record SureFiles : Type 0 where

@@ -94,7 +94,8 @@ impl Kept {
 
 /// The place of the first file of this name.
 fn place_of(files: &[(String, Vec<u8>)], name: &str) -> Option<usize>
-    ensures { MatchOption result (find (slice_cmp nat_cmp) name.now (file_entries files.now) ≡ None) (IsPlaceOf files.now name.now) }
+    ensures { MatchOption result (find (slice_cmp nat_cmp) name.now (file_entries files.now) ≡ None)
+        (IsPlaceOf files.now name.now) }
 {
     let mut place = 0;
     while place < files.len() {

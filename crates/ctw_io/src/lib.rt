@@ -51,7 +51,8 @@ pub trait Shelf {
     ///
     /// `Failed` says that reading failed, and `NoMemory` that memory was wanting. A load changes no file.
     fn load(&mut self, alloc: Global, name: &str, limit: u64) -> Result<Loaded, Fault>
-        ensures content { (told : Files) → files self.old ≡ Some told → IfOk result (λ loaded. IsLoadOf (get told name.now) limit loaded) }
+        ensures content { (told : Files) → files self.old ≡ Some told
+            → IfOk result (λ loaded. IsLoadOf (get told name.now) limit loaded) }
         ensures within { IfOk result (λ loaded. IsWithin limit loaded) }
         ensures unchanged { files self.new ≡ files self.old }
         ensures cause { HasCause (faults self.old) (faults self.new) result };
@@ -61,8 +62,10 @@ pub trait Shelf {
     /// After `Failed` the file is as before or holds a prefix of the bytes, and after `NoMemory` it is as before.
     /// Other files stay as they are.
     fn save(&mut self, name: &str, bytes: &[u8]) -> Result<(), Fault>
-        ensures saved { (told : Files) → files self.old ≡ Some told → OnOk result (files self.new ≡ Some (insert told name.now bytes.now)) }
-        ensures failed { (told : Files) → files self.old ≡ Some told → IsErrOf result Failed → IsHalfSaved told name.now bytes.now (files self.new) }
+        ensures saved { (told : Files) → files self.old ≡ Some told
+            → OnOk result (files self.new ≡ Some (insert told name.now bytes.now)) }
+        ensures failed { (told : Files) → files self.old ≡ Some told → IsErrOf result Failed
+            → IsHalfSaved told name.now bytes.now (files self.new) }
         ensures memory { IsErrOf result NoMemory → files self.new ≡ files self.old }
         ensures cause { HasCause (faults self.old) (faults self.new) result };
 }
@@ -94,7 +97,8 @@ pub fn send<K: Sink>(out: &mut K, bytes: &[u8]) -> Result<(), Fault>
     ensures err { OnErr result (TookPrefix (K.taken out.old) (K.taken out.new) bytes.now) }
     ensures kept { K.faults out.old ≤ K.faults out.new }
     ensures failed { IsErrOf result Failed → Rose (K.faults out.old) (K.faults out.new) }
-    ensures empty { length bytes.now ≡ 0 → IsOk result × (K.taken out.new ≡ K.taken out.old) × (K.faults out.new ≡ K.faults out.old) }
+    ensures empty { length bytes.now ≡ 0
+        → IsOk result × (K.taken out.new ≡ K.taken out.old) × (K.faults out.new ≡ K.faults out.old) }
 {
     let mut at = 0;
     while at < bytes.len() {

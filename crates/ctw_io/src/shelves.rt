@@ -30,7 +30,13 @@ impl Model for MemShelf {
 
     ghost coded = { mem_files_code };
 
-    ghost view = { λ shelf. record { files = shelf.kept; fails = shelf.plan.fails.items; calls = shelf.plan.calls; faults = shelf.plan.faults } };
+    ghost view = { λ shelf.
+        record {
+          files = shelf.kept;
+          fails = shelf.plan.fails.items;
+          calls = shelf.plan.calls;
+          faults = shelf.plan.faults;
+        } };
 }
 
 impl MemShelf {

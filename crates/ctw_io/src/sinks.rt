@@ -10,8 +10,8 @@ use std::marker::Model;
 
 /// A sink in memory whose calls fail where they are told to.
 ///
-/// Contracts see the bytes that it has taken, the greatest number of bytes that one call takes, the numbers of the calls
-/// that are to fail, how many calls there were, and how many of them failed.
+/// Contracts see the bytes that it has taken, the greatest number of bytes that one call takes, the numbers of the
+/// calls that are to fail, how many calls there were, and how many of them failed.
 #[derive(Drop)]
 pub struct MemSink {
     taken: Vec<u8>,
@@ -25,14 +25,21 @@ impl Model for MemSink {
 
     ghost Value = { MemBytes };
 
-    ghost view = { λ sink. record { taken = sink.taken.items; most = sink.most; fails = sink.plan.fails.items; calls = sink.plan.calls; faults = sink.plan.faults } };
+    ghost view = { λ sink.
+        record {
+          taken = sink.taken.items;
+          most = sink.most;
+          fails = sink.plan.fails.items;
+          calls = sink.plan.calls;
+          faults = sink.plan.faults;
+        } };
 
     ghost invariant = { λ sink. 1 ≤ sink.most };
 }
 
 impl MemSink {
-    /// A sink that takes at most so many bytes a call, and whose calls of these numbers fail, counted from 1. It has taken
-    /// nothing yet, and takes no memory until it does.
+    /// A sink that takes at most so many bytes a call, and whose calls of these numbers fail, counted from 1. It has
+    /// taken nothing yet, and takes no memory until it does.
     pub fn new(alloc: Global, most: usize, fails: Vec<u64>) -> MemSink
         requires { 1 ≤ most }
         ensures { result ≡ record { taken = []; most = most; fails = fails.items; calls = 0; faults = 0 } }

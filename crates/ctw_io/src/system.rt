@@ -35,8 +35,8 @@ impl<R: Files> Shelf for DirShelf<R> {
 
     ghost faults = { λ shelf. shelf.faults };
 
-    /// It reads no more than one byte past the limit. `Missing` says that the system finds no such file; a folder fails,
-    /// and so does a path through a file.
+    /// It reads no more than one byte past the limit. `Missing` says that the system finds no such file; a folder
+    /// fails, and so does a path through a file.
     fn load(&mut self, alloc: Global, name: &str, limit: u64) -> Result<Loaded, Fault> {
         match read_file(&self.system, alloc, name, limit) {
             Ok(loaded) => Ok(loaded),

@@ -9,7 +9,7 @@ use Rattle.ctw_leb.specs.Grammar.{Grammar, Just, Bytes, OneOf, Items, TimesFrom,
 use Rattle.ctw_leb.specs.Grammar as grammar
 use Rattle.ctw_leb.specs.Numbers.{IsU32}
 use Rattle.ctw_leb.specs.Vectors.{Vector, Sized}
-use Rattle.ctw_leb.specs.Reading.{Reader, WholeReader, Exact, Whole, chain, give, all_bytes, refused, faulted, known, one_of_bytes, one_of, times_from, times, items_in, items, ends, alone, window_of, within, then_all, seen_as, mapped, passed, tested}
+use Rattle.ctw_leb.specs.Reading.{Reader, WholeReader, Exact, Whole, chain, give, all_bytes, refused, faulted, known, one_of_bytes, one_of, tabled, times_from, times, items_in, items, ends, alone, window_of, within, then_all, seen_as, mapped, passed, tested}
 use Rattle.ctw_leb.specs.Reading as reader
 use Rattle.ctw_leb.specs.Readers.{byte_at, bytes_at}
 use Rattle.ctw_leb.proofs.Exact.{ok_is, err_is, err_ok, ok_err, chain_ok, chosen}
@@ -265,6 +265,27 @@ no_byte : {A K F : Type 0} (short : ℕ → F) (bad : K → ℕ → F) (table : 
 unfolding byte_at
 no_byte short bad table at [] d e = refl
 no_byte short bad table at (c ∷ rest) d e = absurd (ok_err (c, record { at = at + 1; rest = rest }) d e)
+
+-- a byte by a table whose fault is a kind and a place, and the same with a fault that is made of them
+one_of_placed : {A K F : Type 0} (fault : K → ℕ → F) (short : K) (rows : ℕ → Result A K) (i : Input)
+    → one_of (fault short) fault rows i ≡ refused (λ (f : K × ℕ). fault f.0 f.1) (tabled short rows i)
+one_of_placed {A} {K} fault short rows i = bytes i.rest
+  where
+    row : (o : Input) (answer : Result A K) → known (λ kind. fault kind i.at) o answer ≡ refused (λ (f : K × ℕ). fault f.0 f.1) (known (λ kind. (kind, i.at)) o answer)
+    row o (Ok a) = refl
+    row o (Err kind) = refl
+
+    bytes : (rest : List ℕ) → one_of_bytes (fault short) fault rows i.at rest ≡ refused (λ (f : K × ℕ). fault f.0 f.1) (one_of_bytes {F = K × ℕ} (λ at. (short, at)) (λ kind at. (kind, at)) rows i.at rest)
+    bytes [] = refl
+    bytes (b ∷ rest) = row (record { at = i.at + 1; rest = rest }) (rows b)
+
+pub placed_ok : {A K F : Type 0} (fault : K → ℕ → F) (short : K) (rows : ℕ → Result A K) (i o : Input) (a : A)
+    → tabled short rows i ≡ Ok (a, o) → one_of (fault short) fault rows i ≡ Ok (a, o)
+placed_ok fault short rows i o a e = one_of_placed fault short rows i ∙ ap (refused (λ f. fault f.0 f.1)) e
+
+pub placed_bad : {A K F : Type 0} (fault : K → ℕ → F) (short : K) (rows : ℕ → Result A K) (i : Input) (kind : K) (place : ℕ)
+    → tabled short rows i ≡ Err (kind, place) → one_of (fault short) fault rows i ≡ Err (fault kind place)
+placed_bad fault short rows i kind place e = one_of_placed fault short rows i ∙ ap (refused (λ f. fault f.0 f.1)) e
 
 pub one_of_ok : {A K F : Type 0} (short : ℕ → F) (bad : K → ℕ → F) (table : ℕ → Result A K) (i o : Input) (b : ℕ) (a : A) → byte_at i ≡ Ok (b, o) → table b ≡ Ok a → one_of short bad table i ≡ Ok (a, o)
 one_of_ok short bad table i o b a e s = rw (one_byte short bad table i.at i.rest o b e, s) refl

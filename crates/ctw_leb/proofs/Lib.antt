@@ -7,3 +7,4 @@ pub mod Combinators
 pub mod Loops
 pub mod Spelling
 pub mod Names
+pub mod FrontNumbers

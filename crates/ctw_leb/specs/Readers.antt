@@ -14,7 +14,9 @@ byte_at = one_of (λ at. Truncated) (λ (kind : LebFault). λ at. kind) Ok
 
 -- so many bytes as they are
 unfoldable pub bytes_at : ℕ → Reader (List ℕ) LebFault
-bytes_at n i = if nat_le n (length i.rest) then Ok (take n i.rest, record { at = i.at + n; rest = drop n i.rest }) else Err Truncated
+bytes_at n i =
+    if nat_le n (length i.rest) then Ok (take n i.rest, record { at = i.at + n; rest = drop n i.rest })
+    else Err Truncated
 
 -- what the last byte of an unsigned number stands for
 abbrev pub unsigned_end : ℕ → ℕ → Option ℕ

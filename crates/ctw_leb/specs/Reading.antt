@@ -14,8 +14,10 @@ WholeReader A F = Input → Result A F
 -- A reader is exact for a grammar where it answers a value exactly where a spelling of it stands, and then
 -- stands behind that spelling.
 pub record Exact {A F : Type 0} (G : Grammar A) (r : Reader A F) : Type 0 where
-  pub sound : (i : Input) (a : A) (o : Input) → r i ≡ Ok (a, o) → (text : List ℕ) × G text a × (i.rest ≡ text ++ o.rest) × (o.at ≡ i.at + length text)
-  pub complete : (text rest : List ℕ) (at : ℕ) (a : A) → G text a → r (record { at = at; rest = text ++ rest }) ≡ Ok (a, behind at text rest)
+  pub sound : (i : Input) (a : A) (o : Input) → r i ≡ Ok (a, o)
+      → (text : List ℕ) × G text a × (i.rest ≡ text ++ o.rest) × (o.at ≡ i.at + length text)
+  pub complete : (text rest : List ℕ) (at : ℕ) (a : A) → G text a
+      → r (record { at = at; rest = text ++ rest }) ≡ Ok (a, behind at text rest)
 
 -- A reader of all bytes is exact for a grammar where it answers a value exactly where all the bytes spell it.
 pub record Whole {A F : Type 0} (G : Grammar A) (r : WholeReader A F) : Type 0 where
@@ -59,13 +61,18 @@ known bad o (Ok a) = Ok (a, o)
 known bad o (Err kind) = Err (bad kind)
 
 -- the same of the first of these bytes
-abbrev pub one_of_bytes : {A K F : Type 0} → (ℕ → F) → (K → ℕ → F) → (ℕ → Result A K) → ℕ → List ℕ → Result (A × Input) F
+abbrev pub one_of_bytes : {A K F : Type 0} → (ℕ → F) → (K → ℕ → F) → (ℕ → Result A K) → ℕ → List ℕ
+    → Result (A × Input) F
 one_of_bytes short bad table at [] = Err (short at)
 one_of_bytes short bad table at (b ∷ rest) = known (λ kind. bad kind at) (record { at = at + 1; rest = rest }) (table b)
 
 -- one byte by a table: `short` where there is none, `bad` by its kind where it stands for nothing
 abbrev pub one_of : {A K F : Type 0} → (ℕ → F) → (K → ℕ → F) → (ℕ → Result A K) → Reader A F
 one_of short bad table i = one_of_bytes short bad table i.at i.rest
+
+-- the same, with the kind of a fault and its place
+abbrev pub tabled : {A K : Type 0} → K → (ℕ → Result A K) → Reader A (K × ℕ)
+tabled short table = one_of (λ at. (short, at)) (λ kind at. (kind, at)) table
 
 -- so many items, each read in the state behind those before it
 abbrev pub times_from : {S A F : Type 0} → (S → Reader A F) → (S → A → S) → ℕ → S → Reader (List A) F
@@ -81,7 +88,8 @@ unfoldable pub items_in : {S A F : Type 0} → (S → Reader A F) → (S → A �
 items_in r next fuel s at [] = Ok []
 items_in r next zero s at (b ∷ rest) = Ok []
 items_in r next (suc fuel) s at (b ∷ rest) =
-    chain (r s (record { at = at; rest = b ∷ rest })) (λ x. chain (items_in r next fuel (next s x.0) x.1.at x.1.rest) (λ others. Ok (x.0 ∷ others)))
+    chain (r s (record { at = at; rest = b ∷ rest }))
+    (λ x. chain (items_in r next fuel (next s x.0) x.1.at x.1.rest) (λ others. Ok (x.0 ∷ others)))
 
 -- items to the end, each read in the state behind those before it
 abbrev pub items : {S A F : Type 0} → (S → Reader A F) → (S → A → S) → S → WholeReader (List A) F
@@ -98,7 +106,8 @@ alone more r i = chain (r i) (ends more)
 -- the next n bytes as a window, and what is behind them
 abbrev pub window_of : {F : Type 0} → (ℕ → F) → ℕ → Reader Input F
 window_of short n i =
-    if nat_le n (length i.rest) then Ok (record { at = i.at; rest = take n i.rest }, record { at = i.at + n; rest = drop n i.rest })
+    if nat_le n (length i.rest)
+    then Ok (record { at = i.at; rest = take n i.rest }, record { at = i.at + n; rest = drop n i.rest })
     else Err (short (i.at + length i.rest))
 
 -- something in exactly n bytes; `short` at the end of the bytes where they are fewer

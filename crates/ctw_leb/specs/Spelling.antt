@@ -15,7 +15,8 @@ turned true x = 127 - x
 -- n, or - (n + 1) by the bits of n turned over, in at most so many bytes; the last one has what is below `limit`
 unfoldable pub shortest : ℕ → Bool → ℕ → ℕ → List ℕ
 shortest limit below zero n = []
-shortest limit below (suc k) n = if nat_lt n limit then turned below n ∷ [] else (turned below (n % 128) + 128) ∷ shortest limit below k (n / 128)
+shortest limit below (suc k) n =
+    if nat_lt n limit then turned below n ∷ [] else (turned below (n % 128) + 128) ∷ shortest limit below k (n / 128)
 
 -- the minimal spelling of an unsigned number: seven bits in each byte
 unfoldable pub u32_text : ℕ → List ℕ

@@ -1,8 +1,9 @@
-ghost use Rattle.std.specs.Prelude.{◌≡◌, ◌+◌, ◌-◌, ◌*◌, ◌<◌, ◌≤◌, ◌^◌, [], ◌∷◌, ◌++◌, ◌↔◌, ℕ, length, pos, negsuc, IfOk, IsOk, OnErr};
+ghost use Rattle.std.specs.Prelude.{◌≡◌, ◌+◌, ◌-◌, ◌*◌, ◌<◌, ◌≤◌, ◌^◌, [], ◌∷◌, ◌++◌, ◌↔◌, ℕ, length, pos, negsuc, IfOk, IsOk, OnErr, Result, Ok};
 ghost use Rattle.std.specs.Int.{w32, w64, cast_unsigned};
 ghost use Rattle.ctw_leb.specs.Numbers.{IsU32, IsSigned};
 ghost use Rattle.ctw_leb.specs.Readers.{ending, number_at, placed, byte_at, bytes_at, u32_at, s32_at, s64_at, name_at};
-ghost use Rattle.ctw_leb.specs.Calls.{Reads, ReadsAs, Finds, ReadsNumber, ReadsName};
+ghost use Rattle.ctw_leb.specs.Reading.{tabled};
+ghost use Rattle.ctw_leb.specs.Calls.{Reads, ReadsAs, Finds, Tabulates, ReadsNumber, ReadsName};
 
 use crate::fault::{Cause, LebFault};
 use crate::number::front_number;
@@ -39,6 +40,17 @@ impl<'a> Cursor<'a> {
         }
     }
 
+    /// Another cursor at the same place.
+    #[inline(always)]
+    pub fn duplicate(&self) -> Cursor<'a>
+        ensures { result ≡ self.now }
+    {
+        Cursor {
+            rest: self.rest,
+            place: self.place,
+        }
+    }
+
     /// The file offset of the next byte.
     pub fn place(&self) -> u32
         ensures { result ≡ self.now.at }
@@ -66,7 +78,8 @@ impl<'a> Cursor<'a> {
     pub fn byte(&mut self) -> Result<u8, LebFault>
         ensures read { Reads result self.old self.new (byte_at self.old) }
         ensures value { IfOk result (λ b. (self.old.rest ≡ b ∷ self.new.rest) × (self.new.at ≡ self.old.at + 1)) }
-        ensures truncated { OnErr result ((result ≡ Err LebFault.Truncated) × (self.old.rest ≡ []) × (self.new ≡ self.old)) }
+        ensures truncated { OnErr result ((result ≡ Err LebFault.Truncated) × (self.old.rest ≡ [])
+            × (self.new ≡ self.old)) }
     {
         match self.rest {
             [] => Err(LebFault::Truncated),
@@ -78,10 +91,40 @@ impl<'a> Cursor<'a> {
         }
     }
 
+    /// Reads one byte by a table, which answers a kind of fault where it stands for nothing.
+    ///
+    /// A fault has its kind and the place of the byte; where no byte is left the kind is `short`. After it the cursor
+    /// may stand behind the byte.
+    #[inline(always)]
+    pub fn by_table<T, K: Drop, F: FnOnce(u8) -> Result<T, K> + Drop>(
+        &mut self,
+        short: K,
+        table: F,
+    ) -> Result<T, (K, u32)>
+        requires { F.IsAlwaysCallable table }
+        ensures read { (rows : ℕ → Result T K) → Tabulates (F.post table) rows →
+            Finds (λ x. x) result self.new (tabled short rows self.old) }
+        ensures row { IfOk result (λ x. (byte : ℕ) × F.post table byte (Ok x)) }
+    {
+        let place = self.place;
+        match self.rest {
+            [] => Err((short, place)),
+            [byte, rest @ ..] => {
+                self.place += 1;
+                self.rest = rest;
+                match table(*byte) {
+                    Ok(x) => Ok(x),
+                    Err(kind) => Err((kind, place)),
+                }
+            }
+        }
+    }
+
     /// Reads an unsigned number below 2^32, of at most 5 bytes.
     ///
     /// `Truncated` where the bytes end inside a spelling, `BadLeb` with the place of the first byte
     /// where no spelling begins.
+    #[inline(always)]
     pub fn read_u32(&mut self) -> Result<u32, LebFault>
         ensures read { Reads result self.old self.new (u32_at self.old) }
         ensures grammar { ReadsNumber IsU32 result self.old self.new }
@@ -90,6 +133,7 @@ impl<'a> Cursor<'a> {
     }
 
     /// Reads a signed number of 32 bits, of at most 5 bytes. The faults are those of `read_u32`.
+    #[inline(always)]
     pub fn read_s32(&mut self) -> Result<i32, LebFault>
         ensures read { ReadsAs (cast_unsigned w32) result self.old self.new (s32_at self.old) }
         ensures grammar { ReadsNumber (IsSigned 32) result self.old self.new }
@@ -190,10 +234,18 @@ impl<'a> Cursor<'a> {
                 self.rest = rest;
                 Ok(u32::from(*byte))
             }
-            _ => match self.number(1 << 31, false) {
-                Ok(n) => Ok(n as u32),
-                Err(fault) => Err(fault),
-            },
+            _ => self.long_unsigned32(),
+        }
+    }
+
+    /// Reads an unsigned number of any length.
+    #[inline(never)]
+    fn long_unsigned32(&mut self) -> Result<u32, LebFault>
+        ensures { Reads result self.old self.new (u32_at self.old) }
+    {
+        match self.number(1 << 31, false) {
+            Ok(n) => Ok(n as u32),
+            Err(fault) => Err(fault),
         }
     }
 
@@ -209,10 +261,18 @@ impl<'a> Cursor<'a> {
                 self.rest = rest;
                 Ok(sign_extended(*byte))
             }
-            _ => match self.number(1 << 31, true) {
-                Ok(n) => Ok((n as u32).cast_signed()),
-                Err(fault) => Err(fault),
-            },
+            _ => self.long_signed32(),
+        }
+    }
+
+    /// Reads a signed number of any length.
+    #[inline(never)]
+    fn long_signed32(&mut self) -> Result<i32, LebFault>
+        ensures { ReadsAs (cast_unsigned w32) result self.old self.new (s32_at self.old) }
+    {
+        match self.number(1 << 31, true) {
+            Ok(n) => Ok((n as u32).cast_signed()),
+            Err(fault) => Err(fault),
         }
     }
 
@@ -228,10 +288,18 @@ impl<'a> Cursor<'a> {
                 self.rest = rest;
                 Ok(i64::from(sign_extended(*byte)))
             }
-            _ => match self.number(1 << 63, true) {
-                Ok(n) => Ok(n.cast_signed()),
-                Err(fault) => Err(fault),
-            },
+            _ => self.long_signed64(),
+        }
+    }
+
+    /// Reads a signed number of any length.
+    #[inline(never)]
+    fn long_signed64(&mut self) -> Result<i64, LebFault>
+        ensures { ReadsAs (cast_unsigned w64) result self.old self.new (s64_at self.old) }
+    {
+        match self.number(1 << 63, true) {
+            Ok(n) => Ok(n.cast_signed()),
+            Err(fault) => Err(fault),
         }
     }
 }

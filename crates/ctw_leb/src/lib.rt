@@ -8,4 +8,5 @@ mod writing;
 
 pub use cursor::Cursor;
 pub use fault::LebFault;
+pub use number::front_u32;
 pub use writing::{put_s64, put_u32};

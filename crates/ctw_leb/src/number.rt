@@ -1,10 +1,12 @@
-ghost use Rattle.std.specs.Prelude.{◌≡◌, ◌*◌, ◌<◌, ◌≤◌, ◌^◌, IfOk, length};
+ghost use Rattle.std.specs.Prelude.{◌≡◌, ◌*◌, ◌<◌, ◌≤◌, ◌^◌, ◌++◌, IfOk, IfSome, IsSome, ℕ, List, length};
+ghost use Rattle.ctw_leb.specs.Numbers.{IsU32};
 ghost use Rattle.ctw_leb.specs.Readers.{ending, number_at};
 ghost use Rattle.ctw_leb.specs.Calls.{Gives};
 
 use crate::fault::Cause;
 
-/// The number at the front, below twice `half`, and the bytes behind it. Most have up to three bytes, which are read without a call.
+/// The number at the front, below twice `half`, and the bytes behind it. Most have up to three bytes,
+/// which are read without a call.
 #[inline(always)]
 #[tactic(auto, unfolding(crate::specs::Readers::number_at))]
 pub fn front_number(bytes: &[u8], half: u64, signed: bool) -> Result<(u64, &[u8]), Cause>
@@ -135,5 +137,19 @@ fn last(byte: u64, half: u64, signed: bool) -> Option<u64>
         Some(byte)
     } else {
         None
+    }
+}
+
+/// The unsigned number below 2^32 at the front of bytes, and the bytes behind it;
+/// None where no number is spelled there.
+#[inline(always)]
+pub fn front_u32(bytes: &[u8]) -> Option<(u32, &[u8])>
+    ensures spelled { IfSome result (λ x. (text : List ℕ) × IsU32 text x.0 × (bytes.now ≡ text ++ x.1.now)) }
+    ensures found { (text after : List ℕ) (n : ℕ) → IsU32 text n → bytes.now ≡ text ++ after →
+        IsSome result × IfSome result (λ x. (x.0 ≡ n) × (x.1.now ≡ after)) }
+{
+    match front_number(bytes, 1 << 31, false) {
+        Ok((n, rest)) => Some((n as u32, rest)),
+        Err(_) => None,
     }
 }

@@ -12,7 +12,9 @@ is_within low high b = nat_le low b && nat_le b high
 
 -- an ASCII letter, an ASCII digit or one of the marks
 abbrev pub is_atom_byte : ℕ → Bool
-is_atom_byte b = is_within 97 122 b || is_within 65 90 b || is_within 48 57 b || list_any (nat_eq b) (codes "!#$%&'*+-./:<=>?@\\^_`|~")
+is_atom_byte b =
+    is_within 97 122 b || is_within 65 90 b || is_within 48 57 b
+    || list_any (nat_eq b) (codes "!#$%&'*+-./:<=>?@\\^_`|~")
 
 -- what stands for itself in a string: from U+20 on, but not U+7F, a quote or a backslash
 abbrev pub is_string_byte : ℕ → Bool

@@ -1,4 +1,5 @@
--- The tokens of a text by their grammar. A text is the list of its bytes in UTF-8. The bytes that are written as numbers:
+-- The tokens of a text by their grammar. A text is the list of its bytes in UTF-8.
+-- The bytes that are written as numbers:
 -- 10 is a line feed, 34 `"`, 40 `(`, 41 `)`, 59 `;`, 92 `\`, 117 `u`, 123 `{` and 125 `}`.
 use Rattle.std.specs.Prelude.{◌≡◌, ℕ, ◌+◌, ◌*◌, ◌==◌, ◌&&◌, ◌||◌, not, Bool, true, false, List, [], ◌∷◌, ◌++◌, Some, length, slice_index, encode_utf8, if◌then◌else◌}
 use Rattle.std.specs.List.{list_all}
@@ -38,15 +39,18 @@ pub data IsGap : List ℕ → List ℕ → Type 0 where
 -- `u{`, one or more hexadecimal digits of a scalar value and `}`.
 pub data IsEscape : List ℕ → List ℕ → Type 0 where
   simple : {c v : ℕ} → simple_of c ≡ Some v → IsEscape (c ∷ []) (v ∷ [])
-  byte : {high low : ℕ} → is_hex high ≡ true → is_hex low ≡ true → IsEscape (high ∷ low ∷ []) ((16 * hex_value high + hex_value low) ∷ [])
-  scalar : (first : ℕ) (digits : List ℕ) → list_all is_hex (first ∷ digits) ≡ true → is_scalar (number_of (first ∷ digits)) ≡ true →
+  byte : {high low : ℕ} → is_hex high ≡ true → is_hex low ≡ true
+      → IsEscape (high ∷ low ∷ []) ((16 * hex_value high + hex_value low) ∷ [])
+  scalar : (first : ℕ) (digits : List ℕ) → list_all is_hex (first ∷ digits) ≡ true
+      → is_scalar (number_of (first ∷ digits)) ≡ true →
       IsEscape (117 ∷ 123 ∷ first ∷ (digits ++ 125 ∷ [])) (encode_utf8 (number_of (first ∷ digits)))
 
 -- what stands between a string's quotes, and the bytes that it stands for; a backslash is 92
 pub data Spells : List ℕ → List ℕ → Type 0 where
   nothing : Spells [] []
   itself : {b : ℕ} {more value : List ℕ} → is_string_byte b ≡ true → Spells more value → Spells (b ∷ more) (b ∷ value)
-  escape : {word bytes more value : List ℕ} → IsEscape word bytes → Spells more value → Spells (92 ∷ (word ++ more)) (bytes ++ value)
+  escape : {word bytes more value : List ℕ} → IsEscape word bytes → Spells more value
+      → Spells (92 ∷ (word ++ more)) (bytes ++ value)
 
 -- a string with its quotes, and what it stands for
 pub data IsString : List ℕ → List ℕ → Type 0 where
@@ -67,7 +71,10 @@ line_feeds (b ∷ bs) = if b == 10 then 1 + line_feeds bs else line_feeds bs
 -- the tokens of a text that begins at the offset `at` and on this line
 pub data IsTokens : (at line : ℕ) → List ℕ → List Lexeme → Type 0 where
   done : {at line : ℕ} → IsTokens at line [] []
-  gap : {at line : ℕ} {ts : List Lexeme} (word rest : List ℕ) → IsGap word rest → IsTokens (at + length word) (line + line_feeds word) rest ts →
+  gap : {at line : ℕ} {ts : List Lexeme} (word rest : List ℕ) → IsGap word rest
+      → IsTokens (at + length word) (line + line_feeds word) rest ts →
       IsTokens at line (word ++ rest) ts
-  token : {at line : ℕ} {ts : List Lexeme} (kind : TokenKind) (word rest : List ℕ) → IsToken kind word rest → IsTokens (at + length word) (line + line_feeds word) rest ts →
-      IsTokens at line (word ++ rest) (record { kind = kind; text = word; start = at; end = at + length word; line = line } ∷ ts)
+  token : {at line : ℕ} {ts : List Lexeme} (kind : TokenKind) (word rest : List ℕ) → IsToken kind word rest
+      → IsTokens (at + length word) (line + line_feeds word) rest ts →
+      IsTokens at line (word ++ rest)
+      (record { kind = kind; text = word; start = at; end = at + length word; line = line } ∷ ts)

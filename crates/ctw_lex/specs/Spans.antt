@@ -7,7 +7,8 @@ use Rattle.ctw_lex.specs.Strings.{string_value}
 
 -- the token of a span
 abbrev pub lexeme : List ℕ → Span → Lexeme
-lexeme text s = record { kind = s.kind; text = slice_range text s.start s.end; start = s.start; end = s.end; line = s.line }
+lexeme text s =
+    record { kind = s.kind; text = slice_range text s.start s.end; start = s.start; end = s.end; line = s.line }
 
 -- the tokens of spans
 abbrev pub lexemes : List ℕ → List Span → List Lexeme

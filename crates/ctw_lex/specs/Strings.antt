@@ -61,7 +61,9 @@ contents skip at [] = Ok []
 contents (suc k) at (b ∷ bs) = contents k (at + 1) bs
 contents zero at (b ∷ bs) =
     if b == 92 then escaped (escape_of bs) (record { kind = BadEscape; start = at }) (λ k. contents k (at + 1) bs)
-    else (if is_string_byte b then with_front (b ∷ []) (contents zero (at + 1) bs) else Err (record { kind = BadChar; start = at }))
+    else
+    (if is_string_byte b then with_front (b ∷ []) (contents zero (at + 1) bs)
+    else Err (record { kind = BadChar; start = at }))
 
 -- the fault, if there is one
 abbrev pub fault_of : {A E : Type 0} → Result A E → Option E

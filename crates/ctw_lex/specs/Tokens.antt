@@ -12,7 +12,8 @@ use Rattle.ctw_lex.specs.Items.{item}
 -- an item at the head of these bytes, which stands at `at` on this line; `rest` reads on behind its first byte
 abbrev pub onto : Item → List ℕ → (at line : ℕ) → (ℕ → Result (List Lexeme) LexPlace) → Result (List Lexeme) LexPlace
 onto (Gap k) bs at line rest = rest k
-onto (Spelled kind k) bs at line rest = with_front (record { kind = kind; text = take (suc k) bs; start = at; end = at + 1 + k; line = line } ∷ []) (rest k)
+onto (Spelled kind k) bs at line rest =
+    with_front (record { kind = kind; text = take (suc k) bs; start = at; end = at + 1 + k; line = line } ∷ []) (rest k)
 onto (Faulty kind k) bs at line rest = Err (record { kind = kind; start = at + k; line = line })
 
 -- The tokens of what follows the place `at`, which is on this line. The first `skip` bytes belong to the item before.

@@ -88,7 +88,8 @@ pub fn tokens<'a>(alloc: Global, text: &'a str) -> Result<TokenList<'a>, LexFaul
     ensures fault { IfErr result (λ fault. IsFaultIn text.now fault) }
 
     // The same by one function, which computes.
-    ensures read { MatchResult result (λ list. tokens_of text.now ≡ Ok list) (λ fault. IsFaultOf fault (tokens_of text.now)) }
+    ensures read { MatchResult result (λ list. tokens_of text.now ≡ Ok list)
+        (λ fault. IsFaultOf fault (tokens_of text.now)) }
 {
     let bytes = text.as_bytes();
     let mut spans = Vec::new(alloc);

@@ -46,7 +46,8 @@ impl<'a> Model for TokenList<'a> {
 
     ghost view = { λ l. lexemes l.text.now l.spans.items };
 
-    ghost invariant = { λ l. (length l.text.now < 2 ^ 32) × IsUtf8 l.text.now × (length l.spans.items ≤ length l.text.now) × All (IsSpanOf l.text.now) l.spans.items };
+    ghost invariant = { λ l. (length l.text.now < 2 ^ 32) × IsUtf8 l.text.now
+        × (length l.spans.items ≤ length l.text.now) × All (IsSpanOf l.text.now) l.spans.items };
 }
 
 impl<'a> TokenList<'a> {

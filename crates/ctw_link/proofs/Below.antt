@@ -13,8 +13,8 @@ use Rattle.ctw_ops.specs.declared.types.Label.{Label}
 use Rattle.ctw_ops.specs.declared.types.ExternTag.{ExternTag}
 use Rattle.ctw_ops.specs.declared.types.ExternTag.TheVariants as tag
 use Rattle.ctw_ops.specs.Tree.{Module, Extern, ImportedFunction, ImportedTable, ImportedMemory, ImportedGlobal, Import, function_entries, global_types}
-use Rattle.ctw_module.specs.declared.types.ExternKind.{ExternKind}
-use Rattle.ctw_module.specs.declared.types.ExternKind.TheVariants as external
+use Rattle.ctw_ops.specs.ExternType.{ExternType}
+use Rattle.ctw_ops.specs.ExternType as external
 use Rattle.ctw_module.specs.Lookup.{export_in}
 use Rattle.ctw_link.specs.Sets.{NamedModule, ModuleSet, defined_in, defined}
 use Rattle.ctw_link.specs.Externals.{wanted, declared_type, offered, has_name, Meets, IsMet}
@@ -32,7 +32,7 @@ same_tag_is tag.Memory tag.Memory e = refl
 same_tag_is tag.Global tag.Global e = refl
 same_tag_is _ _ e = absurd cc
 
-abbrev tag_in : ExternKind → ExternTag
+abbrev tag_in : ExternType Label → ExternTag
 tag_in (external.Func index type) = tag.Func
 tag_in (external.Table limits) = tag.Table
 tag_in (external.Memory type) = tag.Memory
@@ -44,7 +44,7 @@ wanted_tag m (ImportedTable limits) = refl
 wanted_tag m (ImportedMemory type) = refl
 wanted_tag m (ImportedGlobal type) = refl
 
-meets_tag : (got want : ExternKind) → Meets got want → tag_in got ≡ tag_in want
+meets_tag : (got want : ExternType Label) → Meets got want → tag_in got ≡ tag_in want
 meets_tag (external.Func entry got) (external.Func index want) h = refl
 meets_tag (external.Table got) (external.Table want) h = refl
 meets_tag (external.Memory got) (external.Memory want) h = refl
@@ -55,7 +55,7 @@ pub mapped_some : {A B : Type 0} (f : A → B) (o : Option A) (b : B) → option
 mapped_some f None b e = absurd cc
 mapped_some f (Some a) b e = (a, refl, cc)
 
-declared_tag : (m : Module Label) (t : ExternTag) (index : ℕ) (got : ExternKind) → declared_type m t index ≡ Some got → tag_in got ≡ t
+declared_tag : (m : Module Label) (t : ExternTag) (index : ℕ) (got : ExternType Label) → declared_type m t index ≡ Some got → tag_in got ≡ t
 declared_tag m tag.Func index got e = let s = mapped_some _ _ got e in sym (ap tag_in s.2)
 declared_tag m tag.Table index got e = let s = mapped_some _ _ got e in sym (ap tag_in s.2)
 declared_tag m tag.Memory index got e = let s = mapped_some _ _ got e in sym (ap tag_in s.2)
@@ -70,7 +70,7 @@ first_some (n ∷ l) e = omega arith
 is_there : {A : Type 0} (o : Option A) (a : A) → o ≡ Some a → is_some o ≡ true
 is_there o a e = ap is_some e
 
-some_number : (q : LinkedModule) → Counted q → (t : ExternTag) (index : ℕ) (got : ExternKind) → declared_type q.tree t index ≡ Some got → 0 < length (numbers_of t q.numbers)
+some_number : (q : LinkedModule) → Counted q → (t : ExternTag) (index : ℕ) (got : ExternType Label) → declared_type q.tree t index ≡ Some got → 0 < length (numbers_of t q.numbers)
 some_number q c tag.Func index got e = let s = mapped_some _ _ got e in omega (arith, c.functions, slice_get_within (function_entries q.tree) index s.0 s.1)
 some_number q c tag.Table index got e = let s = mapped_some _ _ got e in first_some q.numbers.tables (c.tables ∙ is_there _ s.0 s.1)
 some_number q c tag.Memory index got e = let s = mapped_some _ _ got e in first_some q.numbers.memories (c.memories ∙ is_there _ s.0 s.1)

@@ -12,10 +12,10 @@ use Rattle.ctw_ops.specs.Typing.{Context, Row, Typed, inside}
 use Rattle.ctw_ops.specs.Tree.{Module, Extern, ImportedFunction, ImportedTable, ImportedMemory, ImportedGlobal, Import, Function, Element, with_function, imported_functions, function_entries, function_types}
 use Rattle.ctw_ops.specs.Bodies.{HasItsType, context_of}
 use Rattle.ctw_ops.specs.Valid.{Names, IsImported, IsElement, IsValid}
-use Rattle.ctw_module.specs.Spelled.{Spells}
+use Rattle.ctw_form.specs.Spelled.{Spells}
 use Rattle.ctw_module.specs.Trees.{Lent, tree, parts}
-use Rattle.ctw_module.proofs.Weights.{weight}
-use Rattle.ctw_module.proofs.Brought.{heft}
+use Rattle.ctw_form.proofs.Weights.{weight}
+use Rattle.ctw_form.proofs.Brought.{heft}
 use Rattle.ctw_module.proofs.Known.{known}
 use Rattle.ctw_module.specs.Lookup.{imported_count, function_named}
 use Rattle.std.specs.List.{cons_option}

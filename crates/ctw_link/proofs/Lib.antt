@@ -3,7 +3,6 @@ pub mod DistinctNames
 pub mod MetImports
 pub mod TableUsers
 pub mod Verdict
-pub mod OneEach
 pub mod SizeSums
 pub mod LinkedSets
 mod Examples
@@ -12,6 +11,7 @@ pub mod OwnerLists
 pub mod BlockMaps
 pub mod LinkedParts
 pub mod Below
+pub mod Owners
 pub mod Owned
 pub mod Readers
 pub mod Folding

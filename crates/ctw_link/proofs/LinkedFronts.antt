@@ -5,7 +5,7 @@ use Rattle.std.specs.List.{position_from}
 use Rattle.std.proofs.lemmas.List.{map-append, length-map}
 use Rattle.std.proofs.lemmas.List.Sums.{fold-append}
 use Rattle.std.proofs.lemmas.Option.{slice_get_within}
-use Rattle.ctw_module.proofs.Params.{slice_get_left, slice_get_right}
+use Rattle.ctw_form.proofs.Params.{slice_get_left, slice_get_right}
 use Rattle.ctw_ops.specs.declared.types.ExternTag.{ExternTag}
 use Rattle.ctw_link.specs.Sets.{NamedModule, ModuleSet, defined_in, defined}
 use Rattle.ctw_link.specs.Externals.{has_name}

@@ -4,7 +4,7 @@ use Rattle.ctw_flat.specs.declared.blocks.Block.{Block}
 use Rattle.ctw_link.specs.declared.fault.LinkFault.{LinkFault}
 use Rattle.ctw_link.specs.declared.fault.LinkFault.TheVariants.{NoMemory}
 use Rattle.ctw_link.specs.declared.set.Part.{Part}
-use Rattle.ctw_link.specs.Sets.{set_of}
+use Rattle.ctw_link.specs.Sets.{set_of, AllWithinLimits}
 use Rattle.ctw_link.specs.Numbers.{StoreNumbers, linked, owners}
 use Rattle.ctw_link.specs.Matching.{AreMatching}
 use Rattle.ctw_link.specs.Faults.{set_fault}
@@ -19,11 +19,12 @@ seen_short parts seen e same h m = fails_short (set_of seen) e h (subst (λ (l :
 
 module _ (parts seen others again : List Part) (numbers : List StoreNumbers) (owned : List (ℕ × ℕ)) (blocks : List (List Block)) where
   pub are_linked : CanBeLinked parts → seen ≡ parts → others ≡ parts → again ≡ parts → set_fault (set_of seen) ≡ None → numbers ≡ map (λ p. p.numbers) (linked (set_of seen)) → owned ≡ owners (set_of others) → TellBlocks (codes again) blocks
-      → AreLinked parts numbers owned blocks
-  are_linked can e f g none numbered owners_are told = record {
+      → AllWithinLimits (set_of others) → AreLinked parts numbers owned blocks
+  are_linked can e f g none numbered owners_are told limits = record {
     linkable = can;
     matching = seen_matching parts seen e none;
     numbered = numbered ∙ ap (λ (l : List Part). map (λ p. p.numbers) (linked (set_of l))) e;
     owners = owners_are ∙ ap (λ (l : List Part). owners (set_of l)) f;
     told = subst (λ (l : List Part). TellBlocks (codes l) blocks) g told;
+    limits = subst (λ (l : List Part). AllWithinLimits (set_of l)) f limits;
   }

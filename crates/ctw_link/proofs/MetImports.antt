@@ -6,10 +6,11 @@ use Rattle.ctw_ops.specs.declared.types.Limits.{Limits}
 use Rattle.ctw_ops.specs.Types.{ValueType, VariableType}
 use Rattle.ctw_ops.specs.Equal.{same_label, same_type}
 use Rattle.ctw_ops.specs.Tree.{Module, Import}
-use Rattle.ctw_module.specs.declared.types.ExternKind.{ExternKind}
-use Rattle.ctw_module.specs.declared.types.ExternKind.TheVariants as external
+use Rattle.ctw_ops.specs.ExternType.{ExternType}
+use Rattle.ctw_ops.specs.ExternType as external
 use Rattle.ctw_link.specs.declared.fault.LinkFault.TheVariants.{ImportType}
 use Rattle.ctw_link.specs.Sets.{NamedModule, ModuleSet}
+use Rattle.ctw_module.specs.Given.{extern_kind}
 use Rattle.ctw_link.specs.Externals.{wanted, offered_by, IsAtMost, MeetsLimits, Meets, IsMet}
 use Rattle.ctw_link.specs.Faults.{same_bool, at_most, meets_most, meets_limits, same_variable, meets, type_fault, import_fault, imports_fault_from, imports_fault}
 use Rattle.ctw_ops.proofs.EqualLaws.{same_label_is, same_label_when, same_type_is, same_type_when, same_function_type_is, same_function_type_when}
@@ -45,7 +46,7 @@ variable_test got want =
       (λ e. b.1 (ap (λ (x : VariableType Label). x.mutable) e, ap (λ (x : VariableType Label). x.value) e)),
     )
 
-meets_test : (got want : ExternKind) → (meets got want ≡ true) ↔ Meets got want
+meets_test : (got want : ExternType Label) → (meets got want ≡ true) ↔ Meets got want
 meets_test (external.Func entry got) (external.Func index want) = (same_function_type_is got want, same_function_type_when got want)
 meets_test (external.Table got) (external.Table want) = limits_test got want
 meets_test (external.Memory got) (external.Memory want) =
@@ -68,14 +69,14 @@ meets_test (external.Global got) (external.Memory want) = ((λ e. absurd cc), (�
 -- ---- one import
 
 -- what is offered is there, and meets what is wanted
-abbrev IsMetBy : ExternKind → Option ExternKind → Type 0
-IsMetBy want o = (got : ExternKind) × (o ≡ Some got) × Meets got want
+abbrev IsMetBy : ExternType Label → Option (ExternType Label) → Type 0
+IsMetBy want o = (got : ExternType Label) × (o ≡ Some got) × Meets got want
 
-type_none : (part import : ℕ) (want : ExternKind) (o : Option ExternKind) → NoneWhere (type_fault part import want o) (IsMetBy want o)
+type_none : (part import : ℕ) (want : ExternType Label) (o : Option (ExternType Label)) → NoneWhere (type_fault part import want o) (IsMetBy want o)
 type_none part import want None = ((λ e. absurd cc), (λ h. absurd (let q : None ≡ Some h.0 = h.1 in cc)))
 type_none part import want (Some got) =
     none_same (type_fault part import want (Some got)) (Meets got want) (IsMetBy want (Some got))
-    (none_if (meets got want) (ImportType part import want got) (Meets got want) (meets_test got want))
+    (none_if (meets got want) (ImportType part import (extern_kind want) (extern_kind got)) (Meets got want) (meets_test got want))
     (λ h. (got, refl, h))
     (λ h. let q : h.0 ≡ got = let r : Some got ≡ Some h.0 = h.1 in cc in subst (λ g. Meets g want) q h.2)
 

@@ -17,10 +17,12 @@ use Rattle.ctw_ops.specs.Types.{MemoryType, VariableType}
 use Rattle.ctw_ops.specs.Tree.{Module, Import, function_entries, global_types, memory_among, table_among, type_named}
 use Rattle.ctw_ops.specs.Valid.{IsExported, IsValid}
 use Rattle.ctw_module.specs.declared.types.ExternKind.{ExternKind}
-use Rattle.ctw_module.specs.declared.types.ExternKind.TheVariants as external
+use Rattle.ctw_ops.specs.ExternType.{ExternType}
+use Rattle.ctw_ops.specs.ExternType as external
+use Rattle.ctw_module.specs.declared.types.ExternKind.TheVariants as kind
 use Rattle.ctw_module.specs.Lookup.{export_in}
-use Rattle.ctw_module.specs.Given.{extern_given}
-use Rattle.ctw_module.specs.Trees.{tree, view_module}
+use Rattle.ctw_module.specs.Given.{extern_given, extern_type}
+use Rattle.ctw_module.specs.Trees.{view_module}
 use Rattle.ctw_link.specs.declared.set.Part.{Part}
 use Rattle.ctw_link.specs.Sets.{NamedModule, ModuleSet, part_in, set_of}
 use Rattle.ctw_link.specs.Linked.{CanBeLinked, IsValidPart}
@@ -74,34 +76,49 @@ found_before set g n i j p h e is =
       linked_there = there;
     }
 
-abbrev type_of_thing : Module Label → ExternTag × ℕ → Option ExternKind
+abbrev type_of_thing : Module Label → ExternTag × ℕ → Option (ExternType Label)
 type_of_thing m thing = declared_type m thing.0 thing.1
 
 pub thing_offered : (front : ModuleSet) (i : Import Label) (j : ℕ) (p : NamedModule) (e : Option (ExternTag × ℕ)) → Found front i j p → e ≡ export_in i.name p.tree.exports → offered_by front i ≡ option_and_then (type_of_thing p.tree) e
 thing_offered front i j p e h x = ap (option_and_then (λ (p : NamedModule). offered p.tree i.name)) h.found ∙ ap (option_and_then (type_of_thing p.tree)) (sym x)
 
 -- the kind of a declared type
-pub kind_of_type : (m : Module Label) (tag : ExternTag) (index : ℕ) (ty : ExternKind) → Some ty ≡ declared_type m tag index → tag ≡ tag_of (extern_given ty)
-kind_of_type m Func index ty e = go (slice_get (function_entries m) index) e
+abbrev tag_in : ExternType Label → ExternTag
+tag_in (external.Func index type) = Func
+tag_in (external.Table limits) = Table
+tag_in (external.Memory type) = Memory
+tag_in (external.Global type) = Global
+
+tag_given : (ty : ExternKind) → tag_in (extern_type ty) ≡ tag_of (extern_given ty)
+tag_given (kind.Func index type) = refl
+tag_given (kind.Table limits) = refl
+tag_given (kind.Memory type) = refl
+tag_given (kind.Global type) = refl
+
+tag_declared : (m : Module Label) (tag : ExternTag) (index : ℕ) (ty : ExternType Label) → Some ty ≡ declared_type m tag index → tag ≡ tag_in ty
+tag_declared m Func index ty e = go (slice_get (function_entries m) index) e
   where
-    go : (o : Option ℕ) → Some ty ≡ option_map (λ type. external.Func type (type_named m type)) o → Func ≡ tag_of (extern_given ty)
+    go : (o : Option ℕ) → Some ty ≡ option_map (λ type. external.Func type (type_named m type)) o → Func ≡ tag_in ty
     go None e = absurd cc
-    go (Some x) e = let q : external.Func x (type_named m x) ≡ ty = cc in ap (λ (k : ExternKind). tag_of (extern_given k)) q
-kind_of_type m Table index ty e = go (table_among m.imports m.table) e
+    go (Some x) e = let q : external.Func x (type_named m x) ≡ ty = cc in ap tag_in q
+tag_declared m Table index ty e = go (table_among m.imports m.table) e
   where
-    go : (o : Option Limits) → Some ty ≡ option_map (λ limits. external.Table limits) o → Table ≡ tag_of (extern_given ty)
+    go : (o : Option Limits) → Some ty ≡ option_map (λ limits. external.Table limits) o → Table ≡ tag_in ty
     go None e = absurd cc
-    go (Some x) e = let q : external.Table x ≡ ty = cc in ap (λ (k : ExternKind). tag_of (extern_given k)) q
-kind_of_type m Memory index ty e = go (memory_among m.imports m.memory) e
+    go (Some x) e = let q : external.Table x ≡ ty = cc in ap tag_in q
+tag_declared m Memory index ty e = go (memory_among m.imports m.memory) e
   where
-    go : (o : Option (MemoryType Label)) → Some ty ≡ option_map (λ type. external.Memory type) o → Memory ≡ tag_of (extern_given ty)
+    go : (o : Option (MemoryType Label)) → Some ty ≡ option_map (λ type. external.Memory type) o → Memory ≡ tag_in ty
     go None e = absurd cc
-    go (Some x) e = let q : external.Memory x ≡ ty = cc in ap (λ (k : ExternKind). tag_of (extern_given k)) q
-kind_of_type m Global index ty e = go (slice_get (global_types m) index) e
+    go (Some x) e = let q : external.Memory x ≡ ty = cc in ap tag_in q
+tag_declared m Global index ty e = go (slice_get (global_types m) index) e
   where
-    go : (o : Option (VariableType Label)) → Some ty ≡ option_map (λ type. external.Global type) o → Global ≡ tag_of (extern_given ty)
+    go : (o : Option (VariableType Label)) → Some ty ≡ option_map (λ type. external.Global type) o → Global ≡ tag_in ty
     go None e = absurd cc
-    go (Some x) e = let q : external.Global x ≡ ty = cc in ap (λ (k : ExternKind). tag_of (extern_given k)) q
+    go (Some x) e = let q : external.Global x ≡ ty = cc in ap tag_in q
+
+kind_of_type : (m : Module Label) (tag : ExternTag) (index : ℕ) (ty : ExternKind) → Some (extern_type ty) ≡ declared_type m tag index → tag ≡ tag_of (extern_given ty)
+kind_of_type m tag index ty e = tag_declared m tag index (extern_type ty) e ∙ tag_given ty
 
 -- a linked part has a number for each thing that it may export
 linked_count : (tag : ExternTag) (before : List LinkedModule) (p : NamedModule) (index : ℕ) → IsExported p.tree tag index → index < length (numbers_of tag (linked_module before p).numbers)
@@ -111,7 +128,7 @@ linked_count Memory before p index h = omega (arith, numbers_count Memory before
 linked_count Global before p index h = omega (arith, numbers_count Global before p.tree, export_there p.tree Global index h)
 
 -- what is offered, with its number
-pub offer : (front : ModuleSet) (i : Import Label) (j : ℕ) (p : NamedModule) (tag : ExternTag) (index : ℕ) (ty : ExternKind) → IsValid p.tree → Found front i j p → Some (tag, index) ≡ export_in i.name p.tree.exports → Some ty ≡ declared_type p.tree tag index
+pub offer : (front : ModuleSet) (i : Import Label) (j : ℕ) (p : NamedModule) (tag : ExternTag) (index : ℕ) (ty : ExternKind) → IsValid p.tree → Found front i j p → Some (tag, index) ≡ export_in i.name p.tree.exports → Some (extern_type ty) ≡ declared_type p.tree tag index
     → IsOffer front i (record { part = j; tag = tag; index = index; ty = ty })
 offer front i j p tag index ty v h x t =
     let q = linked_module (linked (take j front)) p in

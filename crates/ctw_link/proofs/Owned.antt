@@ -4,7 +4,7 @@ use Rattle.std.specs.List.{range_with_len}
 use Rattle.std.proofs.lemmas.List.{append_assoc, length-append, length-map, map-append, length_push}
 use Rattle.std.proofs.lemmas.List.FromFn.{length-range_with_len}
 use Rattle.std.proofs.lemmas.List.Sums.{sum_by-cons}
-use Rattle.std.proofs.lemmas.Option.{slice_get-map, slice_get_read, same_Some}
+use Rattle.std.proofs.lemmas.Option.{slice_get-map, slice_get-get_or, slice_get_read, same_Some}
 use Rattle.ctw_ops.specs.declared.types.ExternTag.TheVariants.{Func}
 use Rattle.ctw_flat.specs.declared.blocks.Block.{Block}
 use Rattle.ctw_flat.specs.Blocks.{ends_in}
@@ -14,7 +14,8 @@ use Rattle.ctw_module.specs.Trees.{tree, code_of}
 use Rattle.ctw_link.specs.declared.set.Part.{Part}
 use Rattle.ctw_link.specs.Sets.{NamedModule, ModuleSet, defined_in, defined, set_of}
 use Rattle.ctw_link.specs.Numbers.{owned, owners_from, owners}
-use Rattle.ctw_link.specs.Linked.{IsPart, TellBlocks, code_at, codes_in, codes}
+use Rattle.ctw_link.specs.Linked.{IsPart, TellBlocks, code_at, code_in, codes_in, codes}
+use Rattle.ctw_link.proofs.Owners.{owner_defines, code_is}
 
 -- ---- how many there are
 
@@ -117,3 +118,12 @@ pub blocks_at : (parts : List Part) (maps : List (List Block)) (f : ℕ) (blocks
     → (k index : ℕ) (p : Part) → slice_get (owners (set_of parts)) f ≡ Some (k, index) → IsPart parts k p → TellsEnds (code_at p.«module» index) (ends_in blocks)
 blocks_at parts maps f blocks t lt read k index p e is =
     told_at (codes parts) maps f (code_at p.«module» index) blocks t (body_at parts f k index p e is) (slice_get_read maps (length maps) f blocks refl lt read)
+
+-- the same by the function's number alone
+pub blocks_of_function : (parts : List Part) (maps : List (List Block)) (f : ℕ) (blocks : List Block) → TellBlocks (codes parts) maps → f < length maps → blocks ≡ get_or maps f blocks → TellsEnds (code_in parts f) (ends_in blocks)
+blocks_of_function parts maps f blocks t lt read =
+    let owner = get_or (owners (set_of parts)) f (0, 0) in
+    let below : f < length (owners (set_of parts)) = omega (arith, lt, maps_count parts maps t, all_owned (set_of parts)) in
+    let e : slice_get (owners (set_of parts)) f ≡ Some (owner.0, owner.1) = slice_get-get_or (owners (set_of parts)) f (0, 0) below in
+    let d = owner_defines parts f owner.0 owner.1 e in
+    subst (λ code. TellsEnds code (ends_in blocks)) (sym (code_is parts f owner.0 owner.1 d.part e d.is)) (blocks_at parts maps f blocks t lt read owner.0 owner.1 d.part e d.is)

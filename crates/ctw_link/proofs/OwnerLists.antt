@@ -1,14 +1,17 @@
 -- The owners of functions as they are gathered: function by function, and part by part.
-use Rattle.std.proofs.Common.{◌≡◌, ◌≤◌, ◌<◌, ℕ, ◌+◌, ◌-◌, List, [], ◌∷◌, ◌++◌, length, map, get_or, drop, sym, ap, ◌∙◌, arith}
+use Rattle.std.proofs.Common.{◌≡◌, ◌≤◌, ◌<◌, ℕ, ◌+◌, ◌-◌, List, [], ◌∷◌, ◌++◌, length, map, get_or, drop, take, All, sym, ap, subst, ◌∙◌, arith}
 use Rattle.std.specs.List.{range_with_len}
-use Rattle.std.proofs.lemmas.List.{append_assoc, append-nil, drop_more, drop_all}
+use Rattle.std.proofs.lemmas.List.{append_assoc, append-nil, drop_more, drop_all, take_all}
+use Rattle.std.proofs.lemmas.List.Elements.{All-nil, All-map, All-more}
 use Rattle.std.proofs.lemmas.List.FromFn.{map-range_with_len_more}
 use Rattle.ctw_ops.specs.declared.types.Label.{Label}
-use Rattle.ctw_ops.specs.Tree.{Module, function_entries}
+use Rattle.ctw_ops.specs.Tree.{Module, function_entries, under}
+use Rattle.ctw_ops.specs.declared.numeric.Profile.{Profile}
+use Rattle.ctw_ops.specs.WithinLimits.{IsWithinLimits}
 use Rattle.ctw_module.specs.Lookup.{imported_count}
-use Rattle.ctw_module.specs.Trees.{tree}
+use Rattle.ctw_module.specs.Trees.{tree, view_module}
 use Rattle.ctw_link.specs.declared.set.Part.{Part}
-use Rattle.ctw_link.specs.Sets.{set_of}
+use Rattle.ctw_link.specs.Sets.{NamedModule, AllWithinLimits, part_in, set_of}
 use Rattle.ctw_link.specs.Numbers.{owned, owners_from, owners}
 use Rattle.ctw_link.proofs.IndexSpaces.{functions_count}
 
@@ -58,3 +61,33 @@ owners_more parts k p found next lt is e o =
 pub owners_all : (parts : List Part) (k : ℕ) (found : List (ℕ × ℕ)) → length parts ≤ k → OwnersLeft parts k found → found ≡ owners (set_of parts)
 owners_all parts k found le o =
     sym (append-nil found) ∙ ap (λ (l : List Part). found ++ owners_from k (set_of l)) (sym (drop_all k parts le)) ∙ o.all
+
+-- ---- the limits that the parts keep
+
+abbrev pub KeepsLimits : Part → Type 0
+KeepsLimits p = IsWithinLimits (view_module p.«module»)
+
+-- a profile is no limit
+under_limits : (m : Module Label) (profile : Profile) → IsWithinLimits m → IsWithinLimits (under profile m)
+under_limits m profile h = record { params = h.params; locals = h.locals; bytes = h.bytes }
+
+-- those of the first parts are found, and these keep the limits
+pub record OwnersFound (parts : List Part) (k : ℕ) (found : List (ℕ × ℕ)) : Type 0 where
+  pub left : OwnersLeft parts k found
+  pub limits : All KeepsLimits (take k parts)
+
+pub found_none : (parts : List Part) (found : List (ℕ × ℕ)) → found ≡ [] → OwnersFound parts 0 found
+found_none parts found e = record { left = owners_none parts found e; limits = All-nil KeepsLimits }
+
+pub found_more : (parts : List Part) (k : ℕ) (p : Part) (found next : List (ℕ × ℕ)) → k < length parts → p ≡ get_or parts k p → next ≡ found ++ owned k (tree p.«module») → IsWithinLimits (tree p.«module») → OwnersFound parts k found
+    → OwnersFound parts (k + 1) next
+found_more parts k p found next lt is e limits h = record {
+  left = owners_more parts k p found next lt is e h.left;
+  limits = All-more KeepsLimits parts k p lt h.limits (subst KeepsLimits is (under_limits (tree p.«module») p.«module».profile limits));
+}
+
+all_taken : {A : Type 0} (P : A → Type 0) (xs : List A) (i : ℕ) → length xs ≤ i → All P (take i xs) → All P xs
+all_taken P xs i le h = subst (All P) (take_all i xs le) h
+
+pub limits_all : (parts : List Part) (k : ℕ) (found : List (ℕ × ℕ)) → length parts ≤ k → OwnersFound parts k found → AllWithinLimits (set_of parts)
+limits_all parts k found le h = All-map (λ (p : NamedModule). IsWithinLimits p.tree) part_in parts (all_taken KeepsLimits parts k le h.limits)

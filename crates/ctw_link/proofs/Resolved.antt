@@ -6,10 +6,13 @@ use Rattle.std.proofs.lemmas.Option.{slice_get_within, slice_get-map, get_or_fro
 use Rattle.ctw_ops.specs.declared.types.Label.{Label}
 use Rattle.ctw_ops.specs.declared.types.ExternTag.{ExternTag}
 use Rattle.ctw_ops.specs.Tree.{Module, Import}
+use Rattle.ctw_ops.specs.ExternType.{ExternType}
+use Rattle.ctw_ops.specs.ExternType as of_type
 use Rattle.ctw_module.specs.declared.types.ExternKind.{ExternKind}
 use Rattle.ctw_module.specs.declared.types.ExternKind.TheVariants as external
 use Rattle.ctw_module.specs.declared.types.Import.{Import as Given}
-use Rattle.ctw_module.specs.Given.{extern_given, import_given, HasTypeNamed}
+use Rattle.ctw_module.specs.Given.{extern_given, extern_type, extern_kind, import_given, HasTypeNamed}
+use Rattle.ctw_link.specs.declared.fault.LinkFault.{LinkFault}
 use Rattle.ctw_link.specs.declared.fault.LinkFault.TheVariants.{ImportType}
 use Rattle.ctw_link.specs.Sets.{NamedModule, ModuleSet}
 use Rattle.ctw_link.specs.Externals.{wanted, offered_by}
@@ -29,23 +32,31 @@ for_import set part import p q i j P h x k =
     let item : i ≡ j = some_same (slice_get q.tree.imports import) i j there k.1 in
     subst (λ (i : Import Label). P q i) item (subst (λ (p : NamedModule). P p i) same x)
 
-wanted_given : (m : Module Label) (kind : ExternKind) → HasTypeNamed m kind → wanted m (extern_given kind) ≡ kind
-wanted_given m (external.Func index type) h = ap (external.Func index) (sym h)
+wanted_given : (m : Module Label) (kind : ExternKind) → HasTypeNamed m kind → wanted m (extern_given kind) ≡ extern_type kind
+wanted_given m (external.Func index type) h = ap (of_type.Func index) (sym h)
 wanted_given m (external.Table limits) h = refl
 wanted_given m (external.Memory type) h = refl
 wanted_given m (external.Global type) h = refl
 
+same_value : (kind : ExternKind) → extern_kind (extern_type kind) ≡ kind
+same_value (external.Func index type) = refl
+same_value (external.Table limits) = refl
+same_value (external.Memory type) = refl
+same_value (external.Global type) = refl
+
 -- the fault of an import that is offered a type
-pub fault_offered : (set : ModuleSet) (part import : ℕ) (p : NamedModule) (w : Given) (ty : ExternKind) (b : Bool) → slice_get set part ≡ Some p → HasTypeNamed p.tree w.kind → Some ty ≡ offered_by (take part set) (import_given w) → b ≡ meets ty w.kind
-    → import_fault (take part set) p.tree import (import_given w) ≡ cond b None (Some (ImportType part import w.kind ty))
+pub fault_offered : (set : ModuleSet) (part import : ℕ) (p : NamedModule) (w : Given) (ty : ExternKind) (b : Bool) → slice_get set part ≡ Some p → HasTypeNamed p.tree w.kind → Some (extern_type ty) ≡ offered_by (take part set) (import_given w)
+    → b ≡ meets (extern_type ty) (extern_type w.kind) → import_fault (take part set) p.tree import (import_given w) ≡ cond b None (Some (ImportType part import w.kind ty))
 fault_offered set part import p w ty b is typed o e =
     let front = take part set in
-    ap (λ (k : ExternKind). type_fault (length front) import k (offered_by front (import_given w))) (wanted_given p.tree w.kind typed)
-    ∙ ap (type_fault (length front) import w.kind) (sym o)
-    ∙ ap₂ (λ (c : Bool) (n : ℕ). cond c None (Some (ImportType n import w.kind ty))) (sym e) (front_length set part p is)
+    let told : ExternKind → ExternKind → ℕ → Option LinkFault = λ want got n. Some (ImportType n import want got) in
+    ap (λ (k : ExternType Label). type_fault (length front) import k (offered_by front (import_given w))) (wanted_given p.tree w.kind typed)
+    ∙ ap (type_fault (length front) import (extern_type w.kind)) (sym o)
+    ∙ ap₂ (λ (want got : ExternKind). cond (meets (extern_type ty) (extern_type w.kind)) None (told want got (length front))) (same_value w.kind) (same_value ty)
+    ∙ ap₂ (λ (c : Bool) (n : ℕ). cond c None (told w.kind ty n)) (sym e) (front_length set part p is)
 
 -- what meets an import is of its kind
-pub same_kind : (got want : ExternKind) → true ≡ meets got want → tag_of (extern_given got) ≡ tag_of (extern_given want)
+pub same_kind : (got want : ExternKind) → true ≡ meets (extern_type got) (extern_type want) → tag_of (extern_given got) ≡ tag_of (extern_given want)
 same_kind (external.Func entry got) (external.Func index want) e = refl
 same_kind (external.Table got) (external.Table want) e = refl
 same_kind (external.Memory got) (external.Memory want) e = refl

@@ -11,7 +11,7 @@ use Rattle.ctw_ops.specs.declared.types.Width.{Width}
 use Rattle.ctw_ops.specs.declared.types.Width.TheVariants.{W32, W64}
 use Rattle.ctw_ops.specs.Types.{ValueType, FunctionType, value_type, type_byte, byte_type, byte_types, is_type_byte, erase_value_type}
 use Rattle.ctw_ops.specs.Equal.{same_type, same_types, same_result, erases_alike}
-use Rattle.ctw_module.proofs.Params.{typed, types_at, types_length, type_byte_at}
+use Rattle.ctw_form.proofs.Params.{typed, types_at, types_length, type_byte_at}
 use Rattle.ctw_link.specs.Firsts.{width_byte, result_byte, params_bytes, key_of}
 
 -- ---- a byte and its type

@@ -1,4 +1,5 @@
--- The first fault of a set that doesn't match: names first, then part by part and import by import, then tables, pages and entries.
+-- The first fault of a set that doesn't match: names first, then part by part and import by import, then tables,
+-- pages and entries.
 use Rattle.std.specs.Prelude.{ℕ, zero, suc, ◌+◌, Bool, true, false, ◌&&◌, nat_le, List, [], ◌∷◌, ◌++◌, length, Option, Some, None, if◌then◌else◌}
 use Rattle.std.specs.List.{list_any}
 use Rattle.ctw_ops.specs.declared.types.Label.{Label}
@@ -7,8 +8,9 @@ use Rattle.ctw_ops.specs.declared.types.ExternTag.TheVariants.{Table}
 use Rattle.ctw_ops.specs.Types.{FunctionType, VariableType}
 use Rattle.ctw_ops.specs.Equal.{same_label, same_type, same_function_type}
 use Rattle.ctw_ops.specs.Tree.{Module, Import}
-use Rattle.ctw_module.specs.declared.types.ExternKind.{ExternKind}
-use Rattle.ctw_module.specs.declared.types.ExternKind.TheVariants as external
+use Rattle.ctw_ops.specs.ExternType.{ExternType}
+use Rattle.ctw_ops.specs.ExternType as external
+use Rattle.ctw_module.specs.Given.{extern_kind}
 use Rattle.ctw_link.specs.declared.fault.LinkFault.{LinkFault}
 use Rattle.ctw_link.specs.declared.fault.LinkFault.TheVariants.{NoImport, ImportType, TableMix, TooManyPages, TooManyEntries, DoubleName}
 use Rattle.ctw_link.specs.Sets.{NamedModule, ModuleSet, defined}
@@ -49,16 +51,17 @@ meets_limits got want = nat_le want.min got.min && meets_most got.max want.max
 abbrev pub same_variable : VariableType Label → VariableType Label → Bool
 same_variable got want = same_bool got.mutable want.mutable && same_type got.value want.value
 
-abbrev pub meets : ExternKind → ExternKind → Bool
+abbrev pub meets : ExternType Label → ExternType Label → Bool
 meets (external.Func entry got) (external.Func index want) = same_function_type got want
 meets (external.Table got) (external.Table want) = meets_limits got want
 meets (external.Memory got) (external.Memory want) = same_label got.tag want.tag && meets_limits got.limits want.limits
 meets (external.Global got) (external.Global want) = same_variable got want
 meets got want = false
 
-abbrev pub type_fault : ℕ → ℕ → ExternKind → Option ExternKind → Option LinkFault
+abbrev pub type_fault : ℕ → ℕ → ExternType Label → Option (ExternType Label) → Option LinkFault
 type_fault part import want None = Some (NoImport part import)
-type_fault part import want (Some got) = if meets got want then None else Some (ImportType part import want got)
+type_fault part import want (Some got) =
+    if meets got want then None else Some (ImportType part import (extern_kind want) (extern_kind got))
 
 -- the fault of an import, by the parts before
 abbrev pub import_fault : ModuleSet → Module Label → ℕ → Import Label → Option LinkFault
@@ -67,12 +70,14 @@ import_fault before m import i = type_fault (length before) import (wanted m i.k
 -- imports that are numbered from `import` on
 abbrev pub imports_fault_from : ModuleSet → Module Label → ℕ → List (Import Label) → Option LinkFault
 imports_fault_from before m import [] = None
-imports_fault_from before m import (i ∷ imports) = or_later (import_fault before m import i) (imports_fault_from before m (import + 1) imports)
+imports_fault_from before m import (i ∷ imports) =
+    or_later (import_fault before m import i) (imports_fault_from before m (import + 1) imports)
 
 -- parts behind others
 abbrev pub imports_fault : ModuleSet → ModuleSet → Option LinkFault
 imports_fault before [] = None
-imports_fault before (p ∷ set) = or_later (imports_fault_from before p.tree 0 p.tree.imports) (imports_fault (before ++ p ∷ []) set)
+imports_fault before (p ∷ set) =
+    or_later (imports_fault_from before p.tree 0 p.tree.imports) (imports_fault (before ++ p ∷ []) set)
 
 -- ---- tables
 

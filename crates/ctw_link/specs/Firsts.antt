@@ -6,9 +6,9 @@ use Rattle.std.specs.Cmp.Lexicographic.{slice_cmp}
 use Rattle.std.specs.Global.{Vec}
 use Rattle.std.specs.BTreeMap.{BTreeMap, get_by}
 use Rattle.ctw_ops.specs.declared.types.Label.{Label}
+use Rattle.ctw_ops.specs.declared.types.Label.TheVariants.{Public}
 use Rattle.ctw_ops.specs.declared.types.Width.{Width}
-use Rattle.ctw_ops.specs.declared.types.Width.TheVariants.{W32, W64}
-use Rattle.ctw_ops.specs.Types.{ValueType, FunctionType}
+use Rattle.ctw_ops.specs.Types.{ValueType, FunctionType, value_type, type_byte}
 use Rattle.ctw_ops.specs.Tree.{type_named, no_function_type}
 use Rattle.ctw_module.specs.Trees.{tree}
 use Rattle.ctw_link.specs.declared.fault.LinkFault.{LinkFault}
@@ -21,8 +21,7 @@ use Rattle.ctw_link.specs.Users.{mix_behind}
 
 -- the byte of the public type of a width
 abbrev pub width_byte : Width → ℕ
-width_byte W32 = 0x7F
-width_byte W64 = 0x7E
+width_byte width = type_byte (value_type width Public)
 
 -- that of a result, 40 for none
 abbrev pub result_byte : Option (ValueType Label) → ℕ
@@ -58,15 +57,21 @@ IsTypeOf parts _ _ = ⊥
 
 -- for the bytes of each erased type the part and the entry of the first user that has them
 abbrev pub TellsFirsts : List Part → List (FunctionType Label) → BTreeMap (Vec ℕ) (ℕ × ℕ) → Type 0
-TellsFirsts parts users firsts = (key : List ℕ) → IsTypeOf parts (get_by (λ k. slice_cmp nat_cmp key k.items) firsts) (find (λ t. bytes_eq key (key_of t)) users)
+TellsFirsts parts users firsts =
+    (key : List ℕ)
+    → IsTypeOf parts (get_by (λ k. slice_cmp nat_cmp key k.items) firsts) (find (λ t. bytes_eq key (key_of t)) users)
 
 -- the same of some users
 abbrev pub TellsSome : List Part → BTreeMap (Vec ℕ) (ℕ × ℕ) → Type 0
 TellsSome parts firsts = (users : List (FunctionType Label)) × TellsFirsts parts users firsts
 
 -- behind the users before, these are passed and are told too, or the first of them that differs is found
-abbrev pub Passes : List Part → ℕ → List (FunctionType Label) → List (FunctionType Label) → BTreeMap (Vec ℕ) (ℕ × ℕ) → Result (Unit {0}) LinkFault → Type 0
+abbrev pub Passes : List Part → ℕ → List (FunctionType Label) → List (FunctionType Label) → BTreeMap (Vec ℕ) (ℕ × ℕ)
+    → Result (Unit {0}) LinkFault → Type 0
 Passes parts table before users firsts (Ok u) =
-    (after : List (FunctionType Label)) × TellsFirsts parts after firsts × ((others : List (FunctionType Label)) → mix_behind before (users ++ others) ≡ mix_behind after others)
+    (after : List (FunctionType Label)) × TellsFirsts parts after firsts
+    × ((others : List (FunctionType Label)) → mix_behind before (users ++ others) ≡ mix_behind after others)
 Passes parts table before users firsts (Err e) =
-    (e ≡ NoMemory) ⊎ ((a b : FunctionType Label) × (e ≡ TableMix table a b) × ((others : List (FunctionType Label)) → mix_behind before (users ++ others) ≡ Some (a, b)))
+    (e ≡ NoMemory)
+    ⊎ ((a b : FunctionType Label) × (e ≡ TableMix table a b)
+    × ((others : List (FunctionType Label)) → mix_behind before (users ++ others) ≡ Some (a, b)))

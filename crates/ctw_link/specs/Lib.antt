@@ -9,3 +9,5 @@ pub mod Linked
 pub mod Marks
 pub mod Firsts
 pub mod Resolving
+pub mod SetInstances
+pub mod Exports

@@ -28,7 +28,8 @@ entries set = sum_by (λ p. entries_of p.tree.table) set
 -- names differ, each import is met by a part before, the users of each table are unmixed, and sizes are within limits
 pub record AreMatching (set : ModuleSet) : Type 0 where
   pub names : AllPairs (λ p q. p.name ≢ q.name) set
-  pub imports : (before behind : ModuleSet) (p : NamedModule) → set ≡ before ++ p ∷ behind → All (IsMet before p.tree) p.tree.imports
+  pub imports : (before behind : ModuleSet) (p : NamedModule) → set ≡ before ++ p ∷ behind
+      → All (IsMet before p.tree) p.tree.imports
   pub tables : (table : ℕ) → table < defined Table set → AreUnmixed (users_of (linked set) table)
   pub pages : pages set ≤ most_set_pages
   pub entries : entries set ≤ most_set_entries

@@ -1,5 +1,5 @@
--- The store numbers of a linked set (W3C WebAssembly Core 1.0, section 4.5.3): what a part imports has the number of what is exported, and
--- what it defines takes the next number of its kind, part by part.
+-- The store numbers of a linked set (W3C WebAssembly Core 1.0, section 4.5.3): what a part imports has the number of
+-- what is exported, and what it defines takes the next number of its kind, part by part.
 use Rattle.std.specs.Prelude.{ℕ, ◌+◌, Bool, true, false, List, [], ◌∷◌, ◌++◌, fold, map, length, sum_by, filter_map, slice_get, find, Option, Some, None, option_and_then, unwrap_or, if◌then◌else◌}
 use Rattle.std.specs.List.{range_with_len}
 use Rattle.std.specs.Str.{bytes_eq}
@@ -34,7 +34,8 @@ is_named name p = bytes_eq p.name name
 
 -- the number of what a part exports under a name
 abbrev pub exported_number : List ℕ → LinkedModule → Option ℕ
-exported_number name p = option_and_then (λ thing. slice_get (numbers_of thing.0 p.numbers) thing.1) (export_in name p.tree.exports)
+exported_number name p =
+    option_and_then (λ thing. slice_get (numbers_of thing.0 p.numbers) thing.1) (export_in name p.tree.exports)
 
 -- the number of an import, by the parts before; one that is met by none of them counts as 0
 abbrev pub import_number : List LinkedModule → Import Label → ℕ
@@ -62,7 +63,8 @@ defined_before tag before = sum_by (λ p. defined_in tag p.tree) before
 
 -- imports first
 abbrev pub numbers_behind : ExternTag → List LinkedModule → Module Label → List ℕ
-numbers_behind tag before m = filter_map (number_if tag before) m.imports ++ range_with_len (defined_before tag before) (defined_in tag m)
+numbers_behind tag before m =
+    filter_map (number_if tag before) m.imports ++ range_with_len (defined_before tag before) (defined_in tag m)
 
 abbrev pub linked_module : List LinkedModule → NamedModule → LinkedModule
 linked_module before p = record {
@@ -85,7 +87,8 @@ linked set = fold with_linked [] set
 
 -- the number that an index of a kind leads to, in the part of that index
 abbrev pub number_in : ModuleSet → ExternTag → ℕ → ℕ → Option ℕ
-number_in set tag part index = option_and_then (λ p. slice_get (numbers_of tag p.numbers) index) (slice_get (linked set) part)
+number_in set tag part index =
+    option_and_then (λ p. slice_get (numbers_of tag p.numbers) index) (slice_get (linked set) part)
 
 -- ---- who defines a function
 

@@ -38,7 +38,9 @@ if_same tag other numbers = if same_tag tag other then numbers else []
 
 -- of each kind the numbers of the imports of a part, by the parts before
 abbrev pub HasImports : ModuleSet → ℕ → StoreNumbers → Type 0
-HasImports set part numbers = (p : NamedModule) → slice_get set part ≡ Some p → (tag : ExternTag) → numbers_of tag numbers ≡ filter_map (number_if tag (linked (take part set))) p.tree.imports
+HasImports set part numbers =
+    (p : NamedModule) → slice_get set part ≡ Some p → (tag : ExternTag)
+    → numbers_of tag numbers ≡ filter_map (number_if tag (linked (take part set))) p.tree.imports
 
 -- the part of an index, and its import of a number
 abbrev pub IsImport : ModuleSet → ℕ → ℕ → NamedModule → Import Label → Type 0

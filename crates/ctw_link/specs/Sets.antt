@@ -1,9 +1,10 @@
 -- Sets of modules under names, in the order in which they are linked.
-use Rattle.std.specs.Prelude.{ℕ, List, map, length, sum_by, Option, Some, None}
+use Rattle.std.specs.Prelude.{ℕ, List, map, length, sum_by, All, Option, Some, None}
 use Rattle.ctw_ops.specs.declared.types.Label.{Label}
 use Rattle.ctw_ops.specs.declared.types.ExternTag.{ExternTag}
 use Rattle.ctw_ops.specs.declared.types.ExternTag.TheVariants.{Func, Table, Memory, Global}
 use Rattle.ctw_ops.specs.Tree.{Module}
+use Rattle.ctw_ops.specs.WithinLimits.{IsWithinLimits}
 use Rattle.ctw_module.specs.Trees.{view_module}
 use Rattle.ctw_link.specs.declared.set.Part.{Part}
 
@@ -14,6 +15,10 @@ pub record NamedModule : Type 0 where
 
 abbrev pub ModuleSet : Type 0
 ModuleSet = List NamedModule
+
+-- each of the modules keeps the limits that every module of a file keeps
+abbrev pub AllWithinLimits : ModuleSet → Type 0
+AllWithinLimits set = All (λ p. IsWithinLimits p.tree) set
 
 -- what a part stands for
 abbrev pub part_in : Part → NamedModule

@@ -1,21 +1,16 @@
 -- What the checks of linking answer.
-use Rattle.std.specs.Prelude.{◌≡◌, ◌⊎◌, ℕ, List, Option, Some, None, Result, Ok, Err}
+use Rattle.std.specs.Prelude.{◌≡◌, ℕ, List}
 use Rattle.std.specs.Borrow.{Bor}
 use Rattle.std.specs.List.{position_from}
 use Rattle.std.specs.Ordering.{nat_cmp}
 use Rattle.std.specs.Cmp.Lexicographic.{slice_cmp}
 use Rattle.std.specs.BTreeMap.{BTreeMap, get_by}
-use Rattle.ctw_link.specs.declared.fault.LinkFault.{LinkFault}
-use Rattle.ctw_link.specs.declared.fault.LinkFault.TheVariants.{NoMemory}
 use Rattle.ctw_link.specs.declared.set.Part.{Part}
 use Rattle.ctw_link.specs.Sets.{set_of}
 use Rattle.ctw_link.specs.Externals.{has_name}
 
--- Ok where there is no fault, else the fault; memory may be wanting
-abbrev pub Finds : {A : Type 0} → Result A LinkFault → Option LinkFault → Type 0
-Finds (Ok a) fault = fault ≡ None
-Finds (Err e) fault = (e ≡ NoMemory) ⊎ (fault ≡ Some e)
-
 -- for each name the index of its first part
 abbrev pub TellsParts : List Part → BTreeMap (Bor (List ℕ)) ℕ → Type 0
-TellsParts parts names = (name : List ℕ) → get_by (λ key. slice_cmp nat_cmp name key.now) names ≡ position_from (has_name name) 0 (set_of parts)
+TellsParts parts names =
+    (name : List ℕ)
+    → get_by (λ key. slice_cmp nat_cmp name key.now) names ≡ position_from (has_name name) 0 (set_of parts)

@@ -1,5 +1,5 @@
--- What uses a table: the functions that are put into it, and the calls through it. Of the types of one table instance's users those that
--- erase alike are equal, so that a call can't tell labels or trust apart that the erased set has lost.
+-- What uses a table: the functions that are put into it, and the calls through it. Of the types of one table instance's
+-- users those that erase alike are equal, so that a call can't tell labels or trust apart that the erased set has lost.
 use Rattle.std.specs.Prelude.{◌≡◌, ℕ, Bool, false, ◌==◌, nat_eq, fold, List, [], ◌∷◌, ◌++◌, map, flat_map, find, slice_get, AllPairs, Option, Some, None, filter_map, if◌then◌else◌}
 use Rattle.std.specs.List.{list_any}
 use Rattle.ctw_ops.specs.declared.types.Label.{Label}
@@ -42,7 +42,8 @@ AreUnmixed users = AllPairs (λ a b. EraseAlike a b → a ≡ b) users
 -- ---- the first user that differs
 
 -- two types that differ
-abbrev pub differing : FunctionType Label → Option (FunctionType Label) → Option (FunctionType Label × FunctionType Label)
+abbrev pub differing : FunctionType Label → Option (FunctionType Label)
+    → Option (FunctionType Label × FunctionType Label)
 differing b None = None
 differing b (Some a) = if same_function_type a b then None else Some (a, b)
 
@@ -51,9 +52,11 @@ or_later (Some a) later = Some a
 or_later None later = later
 
 -- behind users, the first of others that differs from the first user that erases like it, with that user in front
-abbrev pub mix_behind : List (FunctionType Label) → List (FunctionType Label) → Option (FunctionType Label × FunctionType Label)
+abbrev pub mix_behind : List (FunctionType Label) → List (FunctionType Label)
+    → Option (FunctionType Label × FunctionType Label)
 mix_behind before [] = None
-mix_behind before (b ∷ users) = or_later (differing b (find (erases_alike b) before)) (mix_behind (before ++ b ∷ []) users)
+mix_behind before (b ∷ users) =
+    or_later (differing b (find (erases_alike b) before)) (mix_behind (before ++ b ∷ []) users)
 
 abbrev pub mix_among : List (FunctionType Label) → Option (FunctionType Label × FunctionType Label)
 mix_among users = mix_behind [] users

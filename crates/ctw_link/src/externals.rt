@@ -1,7 +1,8 @@
-ghost use Rattle.std.specs.Prelude.{◌≡◌, ◌&&◌};
+ghost use Rattle.std.specs.Prelude.{◌≡◌, ◌&&◌, option_map};
 ghost use Rattle.ctw_ops.specs.declared.types.ExternTag.TheVariants.{Func, Global};
 ghost use Rattle.ctw_ops.specs.Valid.{IsValid};
 ghost use Rattle.ctw_module.specs.Trees.{tree, view_module};
+ghost use Rattle.ctw_module.specs.Given.{extern_type};
 ghost use Rattle.ctw_link.specs.Externals.{declared_type};
 ghost use Rattle.ctw_link.specs.Faults.{meets as meets_type, meets_limits as within_limits};
 
@@ -12,7 +13,7 @@ use ctw_ops::{ExternTag, Limits};
 /// The type that a module declares of a thing; None where it has none of that kind and index.
 pub fn declared<'a>(m: &Module<'a>, tag: ExternTag, index: u32) -> Option<ExternKind<'a>>
     requires { IsValid (view_module m.now) }
-    ensures { result ≡ declared_type (tree m.now) tag index }
+    ensures { option_map extern_type result ≡ declared_type (tree m.now) tag index }
 {
     match tag {
         ExternTag::Func => declared_function(m, index),
@@ -24,7 +25,7 @@ pub fn declared<'a>(m: &Module<'a>, tag: ExternTag, index: u32) -> Option<Extern
 
 /// Whether a thing of one type may be imported as one of another.
 pub fn meets(got: &ExternKind, want: &ExternKind) -> bool
-    ensures { result ≡ meets_type got.now want.now }
+    ensures { result ≡ meets_type (extern_type got.now) (extern_type want.now) }
 {
     match (got, want) {
         (ExternKind::Func { ty: got, .. }, ExternKind::Func { ty: want, .. }) => {
@@ -55,7 +56,7 @@ fn meets_limits(got: &Limits, want: &Limits) -> bool
 
 fn declared_function<'a>(m: &Module<'a>, index: u32) -> Option<ExternKind<'a>>
     requires { IsValid (view_module m.now) }
-    ensures { result ≡ declared_type (tree m.now) Func index }
+    ensures { option_map extern_type result ≡ declared_type (tree m.now) Func index }
 {
     if index >= m.func_count() {
         return None;
@@ -68,7 +69,7 @@ fn declared_function<'a>(m: &Module<'a>, index: u32) -> Option<ExternKind<'a>>
 }
 
 fn declared_global<'a>(m: &Module<'a>, index: u32) -> Option<ExternKind<'a>>
-    ensures { result ≡ declared_type (tree m.now) Global index }
+    ensures { option_map extern_type result ≡ declared_type (tree m.now) Global index }
 {
     if index >= m.global_count() {
         return None;

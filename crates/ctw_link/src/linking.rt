@@ -5,7 +5,7 @@ ghost use Rattle.ctw_link.specs.Matching.{AreMatching};
 ghost use Rattle.ctw_link.specs.Faults.{set_fault};
 ghost use Rattle.ctw_link.specs.Linked.{CanBeLinked};
 ghost use Rattle.ctw_link.specs.Numbers.{linked};
-ghost use Rattle.ctw_link.specs.Told.{Finds};
+ghost use Rattle.ctw_ops.specs.FirstFault.{FindsFault};
 
 use crate::bodies::{blocks_of, owners_of};
 use crate::fault::LinkFault;
@@ -22,9 +22,10 @@ use std::alloc::Global;
 ///
 /// There are one to 64 parts, each valid, which together define fewer than 2^32 functions and fewer than 2^32 globals.
 ///
-/// Where the parts don't match, the answer is the first fault: `DoubleName` over all parts; then part by part and import
-/// by import `NoImport` before `ImportType`; then `TableMix` of the least table; then `TooManyPages` above 4,096, and
-/// `TooManyEntries` above 1,000,000. `NoMemory` comes for want of memory alone. Whatever the answer, the parts are taken.
+/// Where the parts don't match, the answer is the first fault: `DoubleName` over all parts; then part by part and
+/// import by import `NoImport` before `ImportType`; then `TableMix` of the least table; then `TooManyPages` above
+/// 4,096, and `TooManyEntries` above 1,000,000. `NoMemory` comes for want of memory alone. Whatever the answer,
+/// the parts are taken.
 /// Takes linear time but for the ordered maps of names and of types.
 pub fn link<'a>(alloc: Global, parts: Vec<Part<'a>>) -> Result<LinkedSet<'a>, LinkFault<'a>>
     requires { CanBeLinked parts.items }
@@ -47,7 +48,7 @@ pub fn link<'a>(alloc: Global, parts: Vec<Part<'a>>) -> Result<LinkedSet<'a>, Li
 /// The store numbers of parts that match. Else their first fault.
 fn match_parts<'a>(alloc: Global, parts: &[Part<'a>]) -> Result<Numbering, LinkFault<'a>>
     requires { CanBeLinked parts.now }
-    ensures fault { Finds result (set_fault (set_of parts.now)) }
+    ensures fault { FindsFault NoMemory result (set_fault (set_of parts.now)) }
     ensures numbers { IfOk result (λ n. n.parts.items ≡ map (λ p. p.numbers) (linked (set_of parts.now))) }
 {
     let names = names_of(alloc, parts)?;

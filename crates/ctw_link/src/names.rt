@@ -1,7 +1,9 @@
 ghost use Rattle.std.specs.Prelude.{◌≡◌, ◌≤◌, ℕ, List, [], length, IfOk};
 ghost use Rattle.ctw_link.specs.Sets.{set_of};
 ghost use Rattle.ctw_link.specs.Faults.{names_fault};
-ghost use Rattle.ctw_link.specs.Told.{Finds, TellsParts};
+ghost use Rattle.ctw_link.specs.Told.{TellsParts};
+ghost use Rattle.ctw_ops.specs.FirstFault.{FindsFault};
+ghost use Rattle.ctw_link.specs.declared.fault.LinkFault.TheVariants.{NoMemory};
 
 use crate::fault::LinkFault;
 use crate::set::Part;
@@ -14,7 +16,7 @@ pub fn names_of<'p, 'a>(
     parts: &'p [Part<'a>],
 ) -> Result<BTreeMap<&'p str, u32>, LinkFault<'a>>
     requires few { length parts.now ≤ 64 }
-    ensures fault { Finds result (names_fault [] (set_of parts.now)) }
+    ensures fault { FindsFault NoMemory result (names_fault [] (set_of parts.now)) }
     ensures names { IfOk result (TellsParts parts.now) }
 {
     let mut names = BTreeMap::new(alloc);

@@ -9,7 +9,6 @@ ghost use Rattle.ctw_link.specs.Linked.{CanBeLinked};
 ghost use Rattle.ctw_link.specs.Resolving.{if_same, no_numbers, AreNumbered, HasImports};
 
 use crate::set::Part;
-use crate::sizes::{defined_memory, defined_table};
 use ctw_module::Module;
 use ctw_ops::ExternTag;
 use std::alloc::{AllocError, Global};
@@ -29,7 +28,13 @@ impl Model for Numbers {
 
     ghost Value = { StoreNumbers };
 
-    ghost view = { λ n. record { functions = n.functions.items; tables = n.tables.items; memories = n.memories.items; globals = n.globals.items } };
+    ghost view = { λ n.
+        record {
+          functions = n.functions.items;
+          tables = n.tables.items;
+          memories = n.memories.items;
+          globals = n.globals.items;
+        } };
 }
 
 impl Numbers {
@@ -59,7 +64,8 @@ impl Numbers {
 
     /// Adds a number to those of a kind.
     pub fn push(&mut self, tag: ExternTag, number: u32) -> Result<(), AllocError>
-        ensures { OnOk result ((t : Tag) → numbers_of t self.new ≡ numbers_of t self.old ++ if_same t tag (number ∷ [])) }
+        ensures { OnOk result ((t : Tag)
+            → numbers_of t self.new ≡ numbers_of t self.old ++ if_same t tag (number ∷ [])) }
     {
         match tag {
             ExternTag::Func => self.functions.push(number)?,
@@ -73,7 +79,8 @@ impl Numbers {
     /// Adds so many numbers to those of a kind, from one on.
     pub fn push_from(&mut self, tag: ExternTag, first: u32, count: u32) -> Result<(), AllocError>
         requires { first + count < 2 ^ 32 }
-        ensures { OnOk result ((t : Tag) → numbers_of t self.new ≡ numbers_of t self.old ++ if_same t tag (range_with_len first count)) }
+        ensures { OnOk result ((t : Tag)
+            → numbers_of t self.new ≡ numbers_of t self.old ++ if_same t tag (range_with_len first count)) }
     {
         'numbers: for number in first..first + count {
             self.push(tag, number)?;
@@ -152,12 +159,12 @@ fn defined_globals(m: &Module, imported: usize) -> u32
 fn defined_tables(m: &Module) -> u32
     ensures { result ≡ one_or_none (tree m.now).table }
 {
-    u32::from(defined_table(m).is_some())
+    u32::from(m.defined_table().is_some())
 }
 
 /// How many memories a module defines.
 fn defined_memories(m: &Module) -> u32
     ensures { result ≡ one_or_none (tree m.now).memory }
 {
-    u32::from(defined_memory(m).is_some())
+    u32::from(m.defined_memory().is_some())
 }

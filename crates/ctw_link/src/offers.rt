@@ -2,7 +2,7 @@ ghost use Rattle.std.specs.Prelude.{◌≡◌, IfSome, option_map, take};
 ghost use Rattle.std.specs.Ordering.{nat_cmp};
 ghost use Rattle.std.specs.Cmp.Lexicographic.{slice_cmp};
 ghost use Rattle.std.specs.BTreeMap.{get_by};
-ghost use Rattle.ctw_module.specs.Given.{import_given};
+ghost use Rattle.ctw_module.specs.Given.{extern_type, import_given};
 ghost use Rattle.ctw_link.specs.Sets.{set_of};
 ghost use Rattle.ctw_link.specs.Externals.{offered_by};
 ghost use Rattle.ctw_link.specs.Linked.{CanBeLinked};
@@ -37,7 +37,8 @@ pub fn offered<'a>(
 ) -> Option<Offer<'a>>
     requires parts { CanBeLinked parts.now }
     requires names { TellsParts parts.now names.now }
-    ensures ty { option_map (λ o. o.ty) result ≡ offered_by (take before (set_of parts.now)) (import_given import.now) }
+    ensures ty { option_map (λ o. extern_type o.ty) result
+        ≡ offered_by (take before (set_of parts.now)) (import_given import.now) }
     ensures offer { IfSome result (IsOffer (take before (set_of parts.now)) (import_given import.now)) }
 {
     let part = part_named(names, before, import.module)?;

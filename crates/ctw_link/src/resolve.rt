@@ -6,7 +6,9 @@ ghost use Rattle.ctw_link.specs.Sets.{NamedModule, set_of, defined};
 ghost use Rattle.ctw_link.specs.Numbers.{import_number as number_of, linked, tag_of};
 ghost use Rattle.ctw_link.specs.Faults.{import_fault, imports_fault_from, imports_fault};
 ghost use Rattle.ctw_link.specs.Linked.{CanBeLinked};
-ghost use Rattle.ctw_link.specs.Told.{Finds, TellsParts};
+ghost use Rattle.ctw_link.specs.Told.{TellsParts};
+ghost use Rattle.ctw_ops.specs.FirstFault.{FindsFault};
+ghost use Rattle.ctw_link.specs.declared.fault.LinkFault.TheVariants.{NoMemory};
 ghost use Rattle.ctw_link.specs.Resolving.{HasImports, IsImport};
 
 use crate::externals::meets;
@@ -26,7 +28,7 @@ pub fn resolve<'a>(
 ) -> Result<Numbering, LinkFault<'a>>
     requires parts { CanBeLinked parts.now }
     requires names { TellsParts parts.now names.now }
-    ensures fault { Finds result (imports_fault [] (set_of parts.now)) }
+    ensures fault { FindsFault NoMemory result (imports_fault [] (set_of parts.now)) }
     ensures numbers { IfOk result (λ n. n.parts.items ≡ map (λ p. p.numbers) (linked (set_of parts.now))) }
     ensures tables { IfOk result (λ n. n.tables ≡ defined Table (set_of parts.now)) }
 {
@@ -50,7 +52,8 @@ fn import_numbers<'a>(
     requires names { TellsParts parts.now names.now }
     requires before { before.now ≡ map (λ p. p.numbers) (linked (take part (set_of parts.now))) }
     requires there { part < length parts.now }
-    ensures fault { (p : NamedModule) → slice_get (set_of parts.now) part ≡ Some p → Finds result (imports_fault_from (take part (set_of parts.now)) p.tree 0 p.tree.imports) }
+    ensures fault { (p : NamedModule) → slice_get (set_of parts.now) part ≡ Some p
+        → FindsFault NoMemory result (imports_fault_from (take part (set_of parts.now)) p.tree 0 p.tree.imports) }
     ensures numbers { IfOk result (HasImports (set_of parts.now) part) }
 {
     let count = parts[part as usize].module.import_count();
@@ -74,9 +77,11 @@ fn import_number<'a>(
     requires names { TellsParts parts.now names.now }
     requires before { before.now ≡ map (λ p. p.numbers) (linked (take part (set_of parts.now))) }
     requires there { (p : NamedModule) × (i : Import Label) × IsImport (set_of parts.now) part import p i }
-    ensures fault { (p : NamedModule) (i : Import Label) → IsImport (set_of parts.now) part import p i → Finds result (import_fault (take part (set_of parts.now)) p.tree import i) }
+    ensures fault { (p : NamedModule) (i : Import Label) → IsImport (set_of parts.now) part import p i
+        → FindsFault NoMemory result (import_fault (take part (set_of parts.now)) p.tree import i) }
     ensures number { (p : NamedModule) (i : Import Label) → IsImport (set_of parts.now) part import p i
-        → IfOk result (λ found. (found.0 ≡ tag_of i.kind) × (found.1 ≡ number_of (linked (take part (set_of parts.now))) i)) }
+        → IfOk result (λ found. (found.0 ≡ tag_of i.kind)
+        × (found.1 ≡ number_of (linked (take part (set_of parts.now))) i)) }
 {
     let wanted = parts[part as usize].module.import(import);
     let Some(offer) = offered(parts, names, part, &wanted) else {

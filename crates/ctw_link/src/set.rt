@@ -4,10 +4,10 @@ ghost use Rattle.ctw_ops.specs.Tree.{memory_among, table_among};
 ghost use Rattle.ctw_flat.specs.Blocks.{ends_in};
 ghost use Rattle.ctw_flat.specs.Positions.{TellsEnds};
 ghost use Rattle.ctw_module.specs.Trees.{tree};
-ghost use Rattle.ctw_link.specs.Sets.{set_of, defined};
+ghost use Rattle.ctw_link.specs.Sets.{set_of, defined, AllWithinLimits};
 ghost use Rattle.ctw_link.specs.Numbers.{number_in, owners};
 ghost use Rattle.ctw_link.specs.Matching.{AreMatching};
-ghost use Rattle.ctw_link.specs.Linked.{CanBeLinked, HasFunction, HasGlobal, IsPart, code_at};
+ghost use Rattle.ctw_link.specs.Linked.{CanBeLinked, HasFunction, HasGlobal, IsPart, Defines, code_in};
 
 use crate::numbers::Numbers;
 use ctw_flat::BlockMap;
@@ -50,11 +50,12 @@ impl<'a> Model for LinkedSet<'a> {
 }
 
 impl<'a> LinkedSet<'a> {
-    /// The parts in the order in which they were linked. They match, and each is valid.
+    /// The parts in the order in which they were linked. They match, and each is valid and within the limits of files.
     pub fn parts(&self) -> &[Part<'a>]
         ensures value { result.now ≡ self.now }
         ensures linked { CanBeLinked self.now }
         ensures matching { AreMatching (set_of self.now) }
+        ensures limits { AllWithinLimits (set_of self.now) }
     {
         &self.parts
     }
@@ -82,7 +83,8 @@ impl<'a> LinkedSet<'a> {
         requires { part < length self.now }
         ensures number { result ≡ number_in (set_of self.now) Memory part 0 }
         ensures there { IfSome result (λ number. number < defined Memory (set_of self.now)) }
-        ensures known { (p : Part) → IsPart self.now part p → (IsSome result ↔ IsSome (memory_among (tree p.«module»).imports (tree p.«module»).memory)) }
+        ensures known { (p : Part) → IsPart self.now part p
+            → (IsSome result ↔ IsSome (memory_among (tree p.«module»).imports (tree p.«module»).memory)) }
     {
         self.numbers[part as usize].memories.first().copied()
     }
@@ -92,7 +94,8 @@ impl<'a> LinkedSet<'a> {
         requires { part < length self.now }
         ensures number { result ≡ number_in (set_of self.now) Table part 0 }
         ensures there { IfSome result (λ number. number < defined Table (set_of self.now)) }
-        ensures known { (p : Part) → IsPart self.now part p → (IsSome result ↔ IsSome (table_among (tree p.«module»).imports (tree p.«module»).table)) }
+        ensures known { (p : Part) → IsPart self.now part p
+            → (IsSome result ↔ IsSome (table_among (tree p.«module»).imports (tree p.«module»).table)) }
     {
         self.numbers[part as usize].tables.first().copied()
     }
@@ -100,7 +103,9 @@ impl<'a> LinkedSet<'a> {
     /// The part that defines a function of the store, and the function's index there, imported ones counted first.
     pub fn owner(&self, func: u32) -> (u32, u32)
         requires { func < defined Func (set_of self.now) }
-        ensures { slice_get (owners (set_of self.now)) func ≡ Some (result.0, result.1) }
+        ensures owner { slice_get (owners (set_of self.now)) func ≡ Some (result.0, result.1) }
+        ensures part { result.0 < length self.now }
+        ensures defines { Defines self.now result.0 result.1 }
     {
         self.owners[func as usize]
     }
@@ -108,8 +113,7 @@ impl<'a> LinkedSet<'a> {
     /// Where the blocks of the body of a function of the store end.
     pub fn blocks(&self, func: u32) -> &BlockMap
         requires { func < defined Func (set_of self.now) }
-        ensures { (part index : ℕ) (p : Part) → slice_get (owners (set_of self.now)) func ≡ Some (part, index) → IsPart self.now part p
-            → TellsEnds (code_at p.«module» index) (ends_in result.now) }
+        ensures { TellsEnds (code_in self.now func) (ends_in result.now) }
     {
         &self.blocks[func as usize]
     }

@@ -6,12 +6,11 @@ ghost use Rattle.ctw_link.specs.Sets.{set_of};
 ghost use Rattle.ctw_link.specs.Matching.{pages_of, entries_of, pages, entries};
 ghost use Rattle.ctw_link.specs.Faults.{pages_fault, entries_fault};
 ghost use Rattle.ctw_link.specs.Linked.{CanBeLinked};
-ghost use Rattle.ctw_link.specs.Told.{Finds};
+ghost use Rattle.ctw_ops.specs.FirstFault.{FindsFault};
 
 use crate::fault::LinkFault;
 use crate::set::Part;
-use ctw_module::{ExternKind, Module};
-use ctw_ops::{Limits, MemType};
+use ctw_module::Module;
 
 /// The pages that the memories of a set may begin with together.
 const MOST_PAGES: u32 = 4096;
@@ -19,41 +18,13 @@ const MOST_PAGES: u32 = 4096;
 /// The entries that the tables of a set may begin with together.
 const MOST_ENTRIES: u64 = 1_000_000;
 
-/// The memory that a module defines.
-pub fn defined_memory(m: &Module) -> Option<MemType>
-    ensures { result ≡ (tree m.now).memory }
-{
-    let _bytes = m.bytes();
-    'imports: for i in 0..m.import_count() {
-        let import = m.import(i);
-        if let ExternKind::Memory(_) = &import.kind {
-            return None;
-        }
-    }
-    m.memory()
-}
-
-/// The table that a module defines.
-pub fn defined_table(m: &Module) -> Option<Limits>
-    ensures { result ≡ (tree m.now).table }
-{
-    let _bytes = m.bytes();
-    'imports: for i in 0..m.import_count() {
-        let import = m.import(i);
-        if let ExternKind::Table(_) = &import.kind {
-            return None;
-        }
-    }
-    m.table()
-}
-
 /// How many pages the memory begins with that a module defines; 0 where it defines none.
 fn pages_in(m: &Module) -> u32
     requires { IsValid (view_module m.now) }
     ensures pages { result ≡ pages_of (tree m.now).memory }
     ensures few { result ≤ 65536 }
 {
-    match defined_memory(m) {
+    match m.defined_memory() {
         Some(memory) => memory.limits.min,
         None => 0,
     }
@@ -63,7 +34,7 @@ fn pages_in(m: &Module) -> u32
 fn entries_in(m: &Module) -> u32
     ensures { result ≡ entries_of (tree m.now).table }
 {
-    match defined_table(m) {
+    match m.defined_table() {
         Some(limits) => limits.min,
         None => 0,
     }
@@ -96,7 +67,7 @@ fn entries_of_all(parts: &[Part]) -> u64
 /// That the defined memories begin with at most 4,096 pages together.
 pub fn check_pages<'a>(parts: &[Part<'a>]) -> Result<(), LinkFault<'a>>
     requires { CanBeLinked parts.now }
-    ensures fault { Finds result (pages_fault (set_of parts.now)) }
+    ensures fault { FindsFault NoMemory result (pages_fault (set_of parts.now)) }
     ensures memory { IfErr result (λ e. e ≢ NoMemory) }
 {
     let pages = pages_of_all(parts);
@@ -109,7 +80,7 @@ pub fn check_pages<'a>(parts: &[Part<'a>]) -> Result<(), LinkFault<'a>>
 /// That the defined tables begin with at most 1,000,000 entries together.
 pub fn check_entries<'a>(parts: &[Part<'a>]) -> Result<(), LinkFault<'a>>
     requires { CanBeLinked parts.now }
-    ensures fault { Finds result (entries_fault (set_of parts.now)) }
+    ensures fault { FindsFault NoMemory result (entries_fault (set_of parts.now)) }
     ensures memory { IfErr result (λ e. e ≢ NoMemory) }
 {
     let entries = entries_of_all(parts);

@@ -9,7 +9,8 @@ ghost use Rattle.ctw_link.specs.Numbers.{LinkedModule, linked};
 ghost use Rattle.ctw_link.specs.Users.{has_table, users_in};
 ghost use Rattle.ctw_link.specs.Faults.{table_fault, tables_fault};
 ghost use Rattle.ctw_link.specs.Linked.{CanBeLinked, IsPart, IsValidPart};
-ghost use Rattle.ctw_link.specs.Told.{Finds};
+ghost use Rattle.ctw_ops.specs.FirstFault.{FindsFault};
+ghost use Rattle.ctw_link.specs.declared.fault.LinkFault.TheVariants.{NoMemory};
 ghost use Rattle.ctw_link.specs.Firsts.{HasEntry, TellsFirsts, TellsSome, Passes, type_in};
 
 use crate::fault::LinkFault;
@@ -31,7 +32,7 @@ pub fn check_tables<'a>(
     requires parts { CanBeLinked parts.now }
     requires numbers { numbers.now ≡ map (λ p. p.numbers) (linked (set_of parts.now)) }
     requires tables { tables ≡ defined Table (set_of parts.now) }
-    ensures { Finds result (tables_fault (linked (set_of parts.now)) tables) }
+    ensures { FindsFault NoMemory result (tables_fault (linked (set_of parts.now)) tables) }
 {
     'tables: for table in 0..tables {
         check_table(alloc, parts, numbers, table)?;
@@ -48,7 +49,7 @@ fn check_table<'a>(
 ) -> Result<(), LinkFault<'a>>
     requires parts { CanBeLinked parts.now }
     requires numbers { numbers.now ≡ map (λ p. p.numbers) (linked (set_of parts.now)) }
-    ensures { Finds result (table_fault (linked (set_of parts.now)) table) }
+    ensures { FindsFault NoMemory result (table_fault (linked (set_of parts.now)) table) }
 {
     let mut firsts = BTreeMap::new(alloc);
     'parts: for part in 0..parts.len() {
@@ -81,7 +82,8 @@ fn pass_part<'a>(
     requires there { part < length parts.now }
     requires valid { All IsValidPart parts.now }
     requires told { TellsSome parts.now firsts.old }
-    ensures { (p : AnyPart) (before : List (FunctionType Label)) → IsPart parts.now part p → TellsFirsts parts.now before firsts.old
+    ensures { (p : AnyPart) (before : List (FunctionType Label)) → IsPart parts.now part p
+        → TellsFirsts parts.now before firsts.old
         → Passes parts.now table before (users_in (tree p.«module»)) firsts.new result }
 {
     let entries = entries_used(alloc, &parts[part as usize].module)?;

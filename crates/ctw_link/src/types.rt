@@ -4,6 +4,7 @@ ghost use Rattle.ctw_ops.specs.Types.{byte_type, byte_types, is_type_byte};
 ghost use Rattle.ctw_ops.specs.Equal.{same_label, same_width, same_trust, same_type, same_types, same_result, same_function_type};
 ghost use Rattle.ctw_link.specs.Firsts.{width_byte, result_byte, params_bytes, key_of};
 
+use ctw_flat::{byte_of_type, type_of_byte};
 use ctw_ops::{FuncType, Label, Trust, ValType, Width};
 use std::alloc::{AllocError, Global};
 
@@ -31,9 +32,9 @@ fn erased_byte(byte: u8) -> u8
     requires { IsTrue (is_type_byte byte) }
     ensures { IfSome (byte_type byte) (λ t. result ≡ width_byte t.width) }
 {
-    match byte {
-        0x7F | 0x7A => 0x7F,
-        _ => 0x7E,
+    match type_of_byte(byte) {
+        Some(t) => byte_of_width(t.width),
+        None => unreachable!(),
     }
 }
 
@@ -49,10 +50,10 @@ fn byte_of_result(ty: Option<ValType>) -> u8
 fn byte_of_width(width: Width) -> u8
     ensures { result ≡ width_byte width }
 {
-    match width {
-        Width::W32 => 0x7F,
-        Width::W64 => 0x7E,
-    }
+    byte_of_type(ValType {
+        width,
+        label: Label::Public,
+    })
 }
 
 /// Whether two types are equal, labels and trust too.

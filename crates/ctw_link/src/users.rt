@@ -53,7 +53,8 @@ impl EntriesUsed {
     /// That of an indirect call.
     fn take_call(&mut self, instr: &Instr) -> Result<(), AllocError>
         requires { AllBelow (length self.old.seen.items) (call_in (op_of instr.now) []) }
-        ensures entries { OnOk result (self.new.entries.items ≡ fold with_entry self.old.entries.items (call_in (op_of instr.now) [])) }
+        ensures entries { OnOk result (self.new.entries.items
+            ≡ fold with_entry self.old.entries.items (call_in (op_of instr.now) [])) }
         ensures count { OnOk result (length self.new.seen.items ≡ length self.old.seen.items) }
     {
         match instr {
@@ -64,8 +65,10 @@ impl EntriesUsed {
 
     /// Those of a body's indirect calls.
     fn take_calls(&mut self, body: &Body) -> Result<(), AllocError>
-        requires { (code : Code Label) × IsBody body.now code × AllBelow (length self.old.seen.items) (indirect_calls code) }
-        ensures entries { (code : Code Label) → IsBody body.now code → OnOk result (self.new.entries.items ≡ fold with_entry self.old.entries.items (indirect_calls code)) }
+        requires { (code : Code Label) × IsBody body.now code
+            × AllBelow (length self.old.seen.items) (indirect_calls code) }
+        ensures entries { (code : Code Label) → IsBody body.now code
+            → OnOk result (self.new.entries.items ≡ fold with_entry self.old.entries.items (indirect_calls code)) }
         ensures count { OnOk result (length self.new.seen.items ≡ length self.old.seen.items) }
     {
         let end = body.code().len();
@@ -85,7 +88,8 @@ impl EntriesUsed {
     fn take_bodies(&mut self, m: &Module) -> Result<(), AllocError>
         requires valid { IsValid (view_module m.now) }
         requires count { length self.old.seen.items ≡ length (tree m.now).types }
-        ensures { OnOk result (self.new.entries.items ≡ fold with_entry self.old.entries.items (call_entries (tree m.now))) }
+        ensures { OnOk result (self.new.entries.items
+            ≡ fold with_entry self.old.entries.items (call_entries (tree m.now))) }
     {
         'functions: for f in 0..m.func_count() {
             let Some(body) = m.body(f) else {
@@ -101,7 +105,8 @@ impl EntriesUsed {
         requires valid { IsValid (view_module m.now) }
         requires functions { AllBelow (length (function_entries (tree m.now))) element.now.functions }
         requires count { length self.old.seen.items ≡ length (tree m.now).types }
-        ensures entries { OnOk result (self.new.entries.items ≡ fold with_entry self.old.entries.items (filter_map (slice_get (function_entries (tree m.now))) element.now.functions)) }
+        ensures entries { OnOk result (self.new.entries.items
+            ≡ fold with_entry self.old.entries.items (filter_map (slice_get (function_entries (tree m.now))) element.now.functions)) }
         ensures count { OnOk result (length self.new.seen.items ≡ length self.old.seen.items) }
     {
         'functions: for k in 0..element.count() {
@@ -114,13 +119,13 @@ impl EntriesUsed {
     fn take_elements(&mut self, m: &Module) -> Result<(), AllocError>
         requires valid { IsValid (view_module m.now) }
         requires count { length self.old.seen.items ≡ length (tree m.now).types }
-        ensures entries { OnOk result (self.new.entries.items ≡ fold with_entry self.old.entries.items (element_entries (tree m.now))) }
+        ensures entries { OnOk result (self.new.entries.items
+            ≡ fold with_entry self.old.entries.items (element_entries (tree m.now))) }
         ensures count { OnOk result (length self.new.seen.items ≡ length self.old.seen.items) }
     {
-        // There are no more than the file has bytes.
-        'elements: for i in 0..m.bytes().len() as u32 {
+        'elements: for i in 0..m.element_count() {
             let Some(element) = m.element(i) else {
-                return Ok(());
+                unreachable!();
             };
             self.take_element(m, &element)?;
         }

@@ -1,18 +1,12 @@
 -- How many functions and globals there are, and the types of those that are defined.
-use Rattle.std.proofs.Common.{◌≡◌, ◌≤◌, ◌<◌, ℕ, zero, suc, ◌+◌, ◌-◌, List, [], ◌∷◌, length, map, slice_get, Option, Some, None, option_map, inl, inr, refl, sym, ap, ◌∙◌, arith}
-use Rattle.std.proofs.lemmas.Bool.{cases_lt}
+use Rattle.std.proofs.Common.{◌≡◌, ◌<◌, ℕ, zero, suc, ◌+◌, ◌-◌, List, [], ◌∷◌, length, map, slice_get, Option, Some, None, option_map, refl, sym, ap, ◌∙◌, arith}
 use Rattle.std.proofs.lemmas.List.{length-append, length-map}
 use Rattle.std.proofs.lemmas.Option.{slice_get-map}
 use Rattle.ctw_ops.specs.declared.types.Label.{Label}
 use Rattle.ctw_ops.specs.Types.{VariableType}
-use Rattle.ctw_ops.specs.Tree.{Module, Function, Global, Constant, Element, imported_functions, imported_globals, function_entries, global_types}
+use Rattle.ctw_ops.specs.Tree.{Module, Function, Global, Constant, imported_functions, imported_globals, function_entries, global_types}
 use Rattle.ctw_module.specs.Lookup.{imported_count, global_inits}
-use Rattle.ctw_module.specs.Spelled.{Spells}
-use Rattle.ctw_module.specs.Trees.{Lent, tree, parts}
-use Rattle.ctw_module.proofs.Weights.{weight}
-use Rattle.ctw_module.proofs.Brought.{heft}
-use Rattle.ctw_module.proofs.Known.{known}
-use Rattle.ctw_module.proofs.Params.{slice_get_right}
+use Rattle.ctw_form.proofs.Params.{slice_get_right}
 
 pub functions_count : (m : Module Label) → length (function_entries m) ≡ imported_count m + length m.functions
 functions_count m = omega (arith, length-append (imported_functions m.imports) (map (λ f. f.type) m.functions), length-map m.functions (λ f. f.type))
@@ -68,37 +62,3 @@ global_at m k i type init e lt is begins =
   where
     no_value : Option (Constant Label)
     no_value = None
-
--- ---- segments are no more than bytes
-
-heavy : (l : List (Element Label)) → length l ≤ weight heft l
-heavy [] = omega arith
-heavy (e ∷ l) = omega (arith, heavy l)
-
-pub few_elements : (lent : Lent) → Spells lent.bytes (tree lent) → length (tree lent).elements ≤ length lent.bytes
-unfolding tree parts
-few_elements lent s = let k = known lent (tree lent) s in omega (arith, k.size, heavy (parts lent).elements)
-
-pub few_segments : (lent : Lent) → Spells lent.bytes (tree lent) → length (tree lent).segments ≤ length lent.bytes
-unfolding tree parts
-few_segments lent s = let k = known lent (tree lent) s in omega (arith, k.size)
-
--- ---- imported globals have no initial value
-
-init_past : (m : Module Label) (g : ℕ) → length (imported_globals m.imports) ≤ g → slice_get (global_inits m) g ≡ Some None → ⊥
-init_past m g le e =
-    let nones = map (λ (t : VariableType Label). no_value) (imported_globals m.imports) in
-    let same : length nones ≡ length (imported_globals m.imports) = length-map (imported_globals m.imports) (λ t. no_value) in
-    let inits = map (λ (x : Global Label). Some x.init) m.globals in
-    no m.globals (g - length nones) (sym (slice_get_right nones inits g (omega (arith, le, same))) ∙ e)
-  where
-    no_value : Option (Constant Label)
-    no_value = None
-
-    no : (l : List (Global Label)) (k : ℕ) → slice_get (map (λ (x : Global Label). Some x.init) l) k ≡ Some None → ⊥
-    no [] k q = cc
-    no (x ∷ l) zero q = cc
-    no (x ∷ l) (suc k) q = no l k q
-
-pub imported_init : (m : Module Label) (g : ℕ) → slice_get (global_inits m) g ≡ Some None → g < length (imported_globals m.imports)
-imported_init m g e = elim (cases_lt g (length (imported_globals m.imports))) [ inl lt ↦ lt | inr le ↦ absurd (init_past m g le e) ]

@@ -7,9 +7,9 @@ use Rattle.ctw_ops.specs.Tree.{Module, Extern, ImportedFunction, ImportedTable, 
 use Rattle.ctw_ops.specs.Typing.{optional}
 use Rattle.ctw_ops.specs.Valid.{IsImported}
 use Rattle.ctw_ops.specs.Once.{with_table, with_memory, imported_tables, imported_memories}
-use Rattle.ctw_module.specs.Spelled.{Spells}
+use Rattle.ctw_form.specs.Spelled.{Spells}
 use Rattle.ctw_module.specs.Trees.{Lent, tree}
-use Rattle.ctw_module.proofs.OneOfEach.{at_most_one}
+use Rattle.ctw_form.proofs.OneOfEach.{at_most_one}
 use Rattle.ctw_modcheck.specs.Faults.{first_in, of_some, import_fault, table_fault, memory_fault}
 use Rattle.ctw_modcheck.proofs.Nones.{all_first, all_rest}
 use Rattle.ctw_modcheck.proofs.Validity.{imports_none, table_none, memory_none}

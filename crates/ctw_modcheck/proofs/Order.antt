@@ -5,7 +5,8 @@ use Rattle.ctw_ops.specs.declared.fault.Space.TheVariants as space
 use Rattle.ctw_ops.specs.Tree.{Module}
 use Rattle.ctw_modcheck.specs.declared.fault.Invalid.{Invalid}
 use Rattle.ctw_modcheck.specs.declared.fault.Invalid.TheVariants.{NoMemory}
-use Rattle.ctw_modcheck.specs.Answers.{Answers, Finds}
+use Rattle.ctw_modcheck.specs.Answers.{Answers}
+use Rattle.ctw_ops.specs.FirstFault.{FindsFault}
 use Rattle.ctw_modcheck.specs.Faults.{or_else, first_in, of_some, types_fault, import_fault, function_fault, table_fault, memory_fault, global_fault, exports_fault, start_fault, element_fault, segment_fault, around_fault}
 use Rattle.ctw_modcheck.proofs.Loops.{skip, stop}
 
@@ -81,6 +82,6 @@ pub found_or_short : (m : Module Label) (a b : Option Invalid) (f : Invalid) →
 found_or_short m a b f e (inl short) = inl short
 found_or_short m a b f e (inr h) = found m a b f e h
 
-pub last : (m : Module Label) (r : Result (Unit {0}) Invalid) → around_fault m ≡ from_segments m → Answers r (from_segments m) → Finds r (around_fault m)
+pub last : (m : Module Label) (r : Result (Unit {0}) Invalid) → around_fault m ≡ from_segments m → Answers r (from_segments m) → FindsFault NoMemory r (around_fault m)
 last m (Ok u) e h = e ∙ h
 last m (Err f) e h = inr (e ∙ h)

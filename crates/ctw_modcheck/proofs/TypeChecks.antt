@@ -1,76 +1,18 @@
 -- The checks of type entries and limits find no fault exactly where these are valid.
-use Rattle.std.proofs.Common.{◌≡◌, ◌≤◌, ◌↔◌, ℕ, suc, true, false, not, ◌&&◌, List, [], ◌∷◌, ◌++◌, map, Option, Some, None, option_map, is_some, IfSome, All, refl, sym, ap, ap₂, ◌∙◌, subst, nat_le, slice_get}
+use Rattle.std.proofs.Common.{◌≡◌, ◌≤◌, ◌↔◌, ℕ, suc, true, false, not, ◌&&◌, List, [], ◌∷◌, ◌++◌, Option, Some, None, is_some, IfSome, All, refl, sym, ap, ◌∙◌, subst, nat_le, slice_get}
 use Rattle.std.specs.List.{list_all}
 use Rattle.std.proofs.lemmas.List.Elements.{All-nil, All-cons}
 use Rattle.ctw_ops.specs.declared.types.Label.{Label}
-use Rattle.ctw_ops.specs.declared.types.Label.TheVariants.{Public}
-use Rattle.ctw_ops.specs.declared.types.Width.{Width}
-use Rattle.ctw_ops.specs.declared.types.Width.TheVariants.{W32, W64}
-use Rattle.ctw_ops.specs.declared.types.Trust.TheVariants.{Untrusted}
 use Rattle.ctw_ops.specs.declared.types.Limits.{Limits}
-use Rattle.ctw_ops.specs.Types.{ValueType, FunctionType, MemoryType, value_type, erase_value_type, erase_function_type}
+use Rattle.ctw_ops.specs.Types.{FunctionType, MemoryType, erase_function_type}
 use Rattle.ctw_ops.specs.Tree.{TypeEntry}
 use Rattle.ctw_ops.specs.Valid.{IsEntry, IsVariant, AreTypes, AreLimits, IsMemory}
 use Rattle.ctw_ops.specs.Limits.{most_memory_pages}
 use Rattle.ctw_modcheck.specs.declared.fault.Invalid.TheVariants.{Variant}
-use Rattle.ctw_ops.specs.Equal.{same_width}
-use Rattle.ctw_modcheck.specs.Faults.{unless, of_some, same_widths, same_result_width, erase_alike, is_variant, is_based_on, variant_fault, types_fault, upto, in_order, within_pages, is_memory}
+use Rattle.ctw_ops.specs.Equal.{erases_alike}
+use Rattle.ctw_ops.proofs.EqualLaws.{alike_is, alike_when}
+use Rattle.ctw_modcheck.specs.Faults.{unless, of_some, is_variant, is_based_on, variant_fault, types_fault, upto, in_order, within_pages, is_memory}
 use Rattle.ctw_modcheck.proofs.Nones.{NoneWhere, none_unless, none_or, all_first, all_rest, both_tests, not_test, none_test, le_test, all_test}
-
--- ---- types that erase alike
-
-same_width_is : (w v : Width) → same_width w v ≡ true → w ≡ v
-same_width_is W32 W32 e = refl
-same_width_is W64 W64 e = refl
-same_width_is W32 W64 e = absurd cc
-same_width_is W64 W32 e = absurd cc
-
-same_width_refl : (w : Width) → same_width w w ≡ true
-same_width_refl W32 = refl
-same_width_refl W64 = refl
-
-abbrev erased : List (ValueType Label) → List (ValueType Label)
-erased = map erase_value_type
-
-abbrev width_of : ValueType Label → Width
-width_of t = t.width
-
-first_width : (t u : ValueType Label) (ts us : List (ValueType Label)) → erased (t ∷ ts) ≡ erased (u ∷ us) → t.width ≡ u.width
-first_width t u ts us e = let q : erase_value_type t ≡ erase_value_type u = cc in ap width_of q
-
-rest_erased : (t u : ValueType Label) (ts us : List (ValueType Label)) → erased (t ∷ ts) ≡ erased (u ∷ us) → erased ts ≡ erased us
-rest_erased t u ts us e = cc
-
-both_erased : (t u : ValueType Label) (ts us : List (ValueType Label)) → t.width ≡ u.width → erased ts ≡ erased us → erased (t ∷ ts) ≡ erased (u ∷ us)
-both_erased t u ts us e f = ap₂ (λ (w : Width) (l : List (ValueType Label)). value_type w Public ∷ l) e f
-
-width_test : (w v : Width) → (same_width w v ≡ true) ↔ (w ≡ v)
-width_test w v = (same_width_is w v, (λ e. ap (same_width w) (sym e) ∙ same_width_refl w))
-
-params_test : (ts us : List (ValueType Label)) → (same_widths ts us ≡ true) ↔ (erased ts ≡ erased us)
-params_test [] [] = ((λ e. refl), (λ e. refl))
-params_test [] (u ∷ us) = ((λ e. absurd cc), (λ e. absurd cc))
-params_test (t ∷ ts) [] = ((λ e. absurd cc), (λ e. absurd cc))
-params_test (t ∷ ts) (u ∷ us) =
-    let b = both_tests (same_width t.width u.width) (same_widths ts us) (t.width ≡ u.width) (erased ts ≡ erased us) (width_test t.width u.width) (params_test ts us) in
-    ((λ e. let q = b.0 e in both_erased t u ts us q.0 q.1), (λ e. b.1 (first_width t u ts us e, rest_erased t u ts us e)))
-
-result_test : (t u : Option (ValueType Label)) → (same_result_width t u ≡ true) ↔ (option_map erase_value_type t ≡ option_map erase_value_type u)
-result_test None None = ((λ e. refl), (λ e. refl))
-result_test None (Some u) = ((λ e. absurd cc), (λ e. absurd cc))
-result_test (Some t) None = ((λ e. absurd cc), (λ e. absurd cc))
-result_test (Some t) (Some u) = (
-  (λ e. ap (λ (w : Width). Some (value_type w Public)) (same_width_is t.width u.width e)),
-  (λ e. let q : erase_value_type t ≡ erase_value_type u = cc in (width_test t.width u.width).1 (ap width_of q)),
-)
-
-alike_test : (f g : FunctionType Label) → (erase_alike f g ≡ true) ↔ (erase_function_type f ≡ erase_function_type g)
-alike_test f g =
-    let b = both_tests (same_widths f.params g.params) (same_result_width f.result g.result) (erased f.params ≡ erased g.params) (option_map erase_value_type f.result ≡ option_map erase_value_type g.result)
-    (params_test f.params g.params) (result_test f.result g.result) in (
-      (λ e. let q = b.0 e in λ i. record { trust = Untrusted; params = q.0 i; result = q.1 i }),
-      (λ e. b.1 (ap (λ (t : FunctionType Label). t.params) e, ap (λ (t : FunctionType Label). t.result) e)),
-    )
 
 -- ---- type entries
 
@@ -91,7 +33,7 @@ IsBase type o = (base : TypeEntry Label) × (o ≡ Some base) × IsEntry base ×
 based_test : (type : FunctionType Label) (o : Option (TypeEntry Label)) → (is_based_on type o ≡ true) ↔ IsBase type o
 based_test type None = ((λ e. absurd cc), (λ h. let q : None ≡ Some h.0 = h.1 in absurd cc))
 based_test type (Some b) =
-    let t = both_tests (not (is_variant b)) (erase_alike type b.type) (IsEntry b) (erase_function_type type ≡ erase_function_type b.type) (entry_test b) (alike_test type b.type) in
+    let t = both_tests (not (is_variant b)) (erases_alike type b.type) (IsEntry b) (erase_function_type type ≡ erase_function_type b.type) (entry_test b) (alike_is type b.type, alike_when type b.type) in
     ((λ e. let q = t.0 e in (b, refl, q.0, q.1)), (λ h. t.1 (same h)))
   where
     same : IsBase type (Some b) → IsEntry b × (erase_function_type type ≡ erase_function_type b.type)

@@ -7,20 +7,21 @@ use Rattle.std.proofs.lemmas.List.Elements.{All-nil, All-cons}
 use Rattle.std.proofs.lemmas.List.Kept.{AllPairs-cons}
 use Rattle.std.proofs.lemmas.Slice.Eq.{bytes_eq-Decides}
 use Rattle.ctw_ops.specs.declared.types.Label.{Label}
-use Rattle.ctw_ops.specs.declared.types.Label.TheVariants.{Public, Secret}
-use Rattle.ctw_ops.specs.declared.types.Width.{Width}
-use Rattle.ctw_ops.specs.declared.types.Width.TheVariants.{W32, W64}
+use Rattle.ctw_ops.specs.declared.types.Label.TheVariants.{Public}
+use Rattle.ctw_ops.specs.declared.types.Width.TheVariants.{W32}
 use Rattle.ctw_ops.specs.declared.types.Limits.{Limits}
 use Rattle.ctw_ops.specs.declared.types.ExternTag.{ExternTag}
 use Rattle.ctw_ops.specs.declared.types.ExternTag.TheVariants.{Func, Table, Memory, Global as GlobalTag}
 use Rattle.ctw_ops.specs.declared.fault.Space.{Space}
 use Rattle.ctw_ops.specs.declared.fault.Space.TheVariants as space
-use Rattle.ctw_ops.specs.Types.{ValueType, VariableType, MemoryType, value_type, type_byte, byte_type}
+use Rattle.ctw_ops.specs.Types.{ValueType, VariableType, MemoryType, value_type}
 use Rattle.ctw_ops.specs.Tree.{Module, Extern, ImportedFunction, ImportedTable, ImportedMemory, ImportedGlobal, Constant, Number, ValueOf, Global, Export, Element, Segment, imported_globals, memory_among, table_among, function_entries, global_types, type_named}
 use Rattle.ctw_ops.specs.Valid.{AreLimits, IsMemory, Names, IsImported, IsConstantOf, HasType, IsGlobal, IsOffset, IsExported, IsStart, IsElement, IsSegment, IsValidAround, IsFormed, IsValid}
 use Rattle.ctw_ops.specs.Bodies.{HasItsType}
 use Rattle.ctw_modcheck.specs.declared.fault.Invalid.TheVariants.{ModuleIndex, DoubleExport, ConstExpr, LimitsOrder, StartType, SegmentType}
-use Rattle.ctw_modcheck.specs.Faults.{first_in, names, in_order, is_memory, table_fault, memory_fault, extern_fault, import_fault, function_fault, is_there, same_type, is_constant, has_type, names_constant, is_of_type, global_fault, names_extern, has_name, export_fault, exports_fault, has_no_types, is_bare, start_type_fault, start_fault, offset_fault, element_fault, segment_fault, around_fault}
+use Rattle.ctw_ops.specs.Equal.{same_type}
+use Rattle.ctw_ops.proofs.EqualLaws.{same_type_is, same_type_when}
+use Rattle.ctw_modcheck.specs.Faults.{first_in, names, in_order, is_memory, table_fault, memory_fault, extern_fault, import_fault, function_fault, is_there, is_constant, has_type, names_constant, is_of_type, global_fault, names_extern, has_name, export_fault, exports_fault, has_no_types, is_bare, start_type_fault, start_fault, offset_fault, element_fault, segment_fault, around_fault}
 use Rattle.ctw_modcheck.proofs.Nones.{NoneWhere, none_unless, none_or, none_same, none_first, none_some, all_first, all_rest, all_to, all_both, both_tests, not_test, some_test, all_test, names_test}
 use Rattle.ctw_modcheck.specs.Check.{bodies_fault, fault_of}
 use Rattle.ctw_modcheck.proofs.BodyChecks.{bodies_none}
@@ -42,19 +43,8 @@ functions_none m = none_first (function_fault m) (λ f. Names m.types f.type) (�
 
 -- ---- constant expressions
 
-read_back : (w : Width) (l : Label) → byte_type (type_byte (value_type w l)) ≡ Some (value_type w l)
-read_back W32 Public = refl
-read_back W64 Public = refl
-read_back W32 Secret = refl
-read_back W64 Secret = refl
-
-same_is : (t u : ValueType Label) → same_type t u ≡ true → t ≡ u
-same_is t u e =
-    let q : Some t ≡ Some u = sym (read_back t.width t.tag) ∙ ap byte_type (eqb-true (type_byte t) (type_byte u) e) ∙ read_back u.width u.tag in
-    cc
-
 type_test : (t u : ValueType Label) → (same_type t u ≡ true) ↔ (t ≡ u)
-type_test t u = (same_is t u, (λ e. eq-eqb (type_byte t) (type_byte u) (ap type_byte e)))
+type_test t u = (same_type_is t u, same_type_when t u)
 
 -- a global that is constant and of the type
 constant_test : (t : ValueType Label) (o : Option (VariableType Label)) → ((is_constant o && has_type t o) ≡ true) ↔ IsConstantOf t o

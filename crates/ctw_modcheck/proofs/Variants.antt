@@ -10,7 +10,8 @@ use Rattle.ctw_ops.specs.Types.{FunctionType}
 use Rattle.ctw_ops.specs.Tree.{Module, TypeEntry, type_named, no_function_type}
 use Rattle.ctw_modcheck.specs.declared.fault.Invalid.TheVariants.{Variant}
 use Rattle.ctw_modcheck.specs.Answers.{fault_at}
-use Rattle.ctw_modcheck.specs.Faults.{or_else, unless, first_in, of_some, is_variant, is_based_on, erase_alike, variant_fault, types_fault}
+use Rattle.ctw_ops.specs.Equal.{erases_alike}
+use Rattle.ctw_modcheck.specs.Faults.{or_else, unless, first_in, of_some, is_variant, is_based_on, variant_fault, types_fault}
 use Rattle.ctw_modcheck.proofs.Items.{no_fault, has_fault}
 use Rattle.ctw_modcheck.proofs.Loops.{skip, stop, at_item}
 
@@ -170,20 +171,20 @@ base_missing types i base h le = base_fault types i base h None (slice_get_past 
 pub base_variant : (types : List (TypeEntry Label)) (i base : ℕ) (o : Option ℕ) → EntryAt types i (Some base) → EntryAt types base o → is_some o ≡ true → fault_at (variant_fault types []) types i ≡ Some (Variant i)
 base_variant types i base o h b e =
     base_fault types i base h (Some b.entry) b.is
-    ∙ has_fault (not (is_variant b.entry) && erase_alike h.entry.type b.entry.type) (Variant i) (ap (λ (t : Bool). not t && erase_alike h.entry.type b.entry.type) (variant_at types base o true b e))
+    ∙ has_fault (not (is_variant b.entry) && erases_alike h.entry.type b.entry.type) (Variant i) (ap (λ (t : Bool). not t && erases_alike h.entry.type b.entry.type) (variant_at types base o true b e))
 
 base_plain : (m : Module Label) (i base : ℕ) (o : Option ℕ) (h : EntryAt m.types i (Some base)) (b : EntryAt m.types base o) → is_some o ≡ false
-    → fault_at (variant_fault m.types []) m.types i ≡ unless (erase_alike (type_named m i) (type_named m base)) (Variant i)
+    → fault_at (variant_fault m.types []) m.types i ≡ unless (erases_alike (type_named m i) (type_named m base)) (Variant i)
 base_plain m i base o h b e =
     base_fault m.types i base h (Some b.entry) b.is
-    ∙ ap (λ (t : Bool). unless (not t && erase_alike h.entry.type b.entry.type) (Variant i)) (variant_at m.types base o false b e)
-    ∙ ap (λ (t : FunctionType Label). unless (erase_alike t b.entry.type) (Variant i)) (sym (type_at m i h.entry h.is))
-    ∙ ap (λ (t : FunctionType Label). unless (erase_alike (type_named m i) t) (Variant i)) (sym (type_at m base b.entry b.is))
+    ∙ ap (λ (t : Bool). unless (not t && erases_alike h.entry.type b.entry.type) (Variant i)) (variant_at m.types base o false b e)
+    ∙ ap (λ (t : FunctionType Label). unless (erases_alike t b.entry.type) (Variant i)) (sym (type_at m i h.entry h.is))
+    ∙ ap (λ (t : FunctionType Label). unless (erases_alike (type_named m i) t) (Variant i)) (sym (type_at m base b.entry b.is))
 
-pub base_other : (m : Module Label) (i base : ℕ) (o : Option ℕ) → EntryAt m.types i (Some base) → EntryAt m.types base o → is_some o ≡ false → erase_alike (type_named m i) (type_named m base) ≡ false
+pub base_other : (m : Module Label) (i base : ℕ) (o : Option ℕ) → EntryAt m.types i (Some base) → EntryAt m.types base o → is_some o ≡ false → erases_alike (type_named m i) (type_named m base) ≡ false
     → fault_at (variant_fault m.types []) m.types i ≡ Some (Variant i)
-base_other m i base o h b e n = base_plain m i base o h b e ∙ has_fault (erase_alike (type_named m i) (type_named m base)) (Variant i) n
+base_other m i base o h b e n = base_plain m i base o h b e ∙ has_fault (erases_alike (type_named m i) (type_named m base)) (Variant i) n
 
-pub base_alike : (m : Module Label) (i base : ℕ) (o : Option ℕ) → EntryAt m.types i (Some base) → EntryAt m.types base o → is_some o ≡ false → erase_alike (type_named m i) (type_named m base) ≡ true
+pub base_alike : (m : Module Label) (i base : ℕ) (o : Option ℕ) → EntryAt m.types i (Some base) → EntryAt m.types base o → is_some o ≡ false → erases_alike (type_named m i) (type_named m base) ≡ true
     → fault_at (variant_fault m.types []) m.types i ≡ None
-base_alike m i base o h b e y = base_plain m i base o h b e ∙ no_fault (erase_alike (type_named m i) (type_named m base)) (Variant i) y
+base_alike m i base o h b e y = base_plain m i base o h b e ∙ no_fault (erases_alike (type_named m i) (type_named m base)) (Variant i) y

@@ -11,7 +11,7 @@ use Rattle.ctw_valid.specs.declared.fault.BodyFault.TheVariants as body
 use Rattle.ctw_valid.specs.Faults.{body_fault}
 use Rattle.ctw_modcheck.specs.declared.fault.Invalid.{Invalid}
 use Rattle.ctw_modcheck.specs.declared.fault.Invalid.TheVariants.{Body, ModuleIndex, DoubleExport, ConstExpr, LimitsOrder, StartType, SegmentType, Variant, NoMemory}
-use Rattle.ctw_modcheck.specs.Answers.{Finds}
+use Rattle.ctw_ops.specs.FirstFault.{FindsFault}
 use Rattle.ctw_modcheck.specs.Check.{function_body_fault, bodies_fault, fault_of}
 use Rattle.ctw_modcheck.specs.Faults.{or_else, unless, first_in, of_some, types_fault, variant_fault, extern_fault, import_fault, function_fault, table_fault, memory_fault, global_fault, export_fault, exports_fault, start_type_fault, start_fault, offset_fault, element_fault, segment_fault, around_fault}
 use Rattle.ctw_modcheck.proofs.BodyChecks.{body_kept}
@@ -117,7 +117,7 @@ fault_kept m =
 -- ---- the answer
 
 -- the fault where there is none around the bodies
-pub behind_around : (m : Module Label) (r : Result (Unit {0}) Invalid) → around_fault m ≡ None → Finds r (bodies_fault m) → Finds r (fault_of m)
+pub behind_around : (m : Module Label) (r : Result (Unit {0}) Invalid) → around_fault m ≡ None → FindsFault NoMemory r (bodies_fault m) → FindsFault NoMemory r (fault_of m)
 unfolding fault_of
 behind_around m (Ok u) e h = skip (around_fault m) (bodies_fault m) e ∙ h
 behind_around m (Err x) e (inl short) = inl short
@@ -132,21 +132,21 @@ no_some : {x : Invalid} → ◌≡◌ {A = Option Invalid} None (Some x) → ⊥
 no_some q = cc
 
 module _ (m : Module Label) where
-  pub is_sound : (r : Result (Unit {0}) Invalid) → IsFormed m → Finds r (fault_of m) → OnOk r (IsValid m)
+  pub is_sound : (r : Result (Unit {0}) Invalid) → IsFormed m → FindsFault NoMemory r (fault_of m) → OnOk r (IsValid m)
   is_sound (Ok u) formed h = none_is_valid m formed h
   is_sound (Err x) formed h = tt
 
-  pub is_complete : (r : Result (Unit {0}) Invalid) → Finds r (fault_of m) → IsValid m → IsOkUnless r NoMemory
+  pub is_complete : (r : Result (Unit {0}) Invalid) → FindsFault NoMemory r (fault_of m) → IsValid m → IsOkUnless r NoMemory
   is_complete (Ok u) h v = tt
   is_complete (Err x) (inl short) v = short
   is_complete (Err x) (inr h) v = absurd (no_some (sym (valid_is_none m v) ∙ h))
 
-  pub is_fault : (r : Result (Unit {0}) Invalid) → Finds r (fault_of m) → IfErr r (λ x. x ≢ NoMemory → fault_of m ≡ Some x)
+  pub is_fault : (r : Result (Unit {0}) Invalid) → FindsFault NoMemory r (fault_of m) → IfErr r (λ x. x ≢ NoMemory → fault_of m ≡ Some x)
   is_fault (Ok u) h = tt
   is_fault (Err x) (inl short) = λ n. absurd (n short)
   is_fault (Err x) (inr h) = λ n. h
 
-  pub is_held : (r : Result (Unit {0}) Invalid) → Finds r (fault_of m) → (f : ℕ) → IfErr r (λ x. x ≢ Body f body.NoMemory)
+  pub is_held : (r : Result (Unit {0}) Invalid) → FindsFault NoMemory r (fault_of m) → (f : ℕ) → IfErr r (λ x. x ≢ Body f body.NoMemory)
   is_held (Ok u) h f = tt
   is_held (Err x) (inl short) f = λ q. apart (sym short ∙ q)
     where

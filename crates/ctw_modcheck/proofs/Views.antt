@@ -2,9 +2,9 @@
 use Rattle.std.proofs.Common.{◌≡◌, ◌⊎◌, Some, inl, inr, refl, ◌∙◌}
 use Rattle.ctw_ops.specs.Valid.{IsFormed}
 use Rattle.ctw_ops.proofs.Profiles.{formed_under}
-use Rattle.ctw_module.specs.Spelled.{Spells}
+use Rattle.ctw_form.specs.Spelled.{Spells}
 use Rattle.ctw_module.specs.Trees.{Lent, tree, view_module}
-use Rattle.ctw_module.proofs.Fitted.{module_formed}
+use Rattle.ctw_form.proofs.Fitted.{module_formed}
 use Rattle.ctw_modcheck.specs.declared.fault.Invalid.{Invalid}
 use Rattle.ctw_modcheck.specs.declared.fault.Invalid.TheVariants.{NoMemory}
 use Rattle.ctw_modcheck.specs.Faults.{around_fault}

@@ -1,20 +1,19 @@
--- The first fault of a module that isn't valid, in the order of looking: types, imports, functions, table, memory, globals, exports, start,
--- elements, data. None where all is as it has to be around the bodies.
+-- The first fault of a module that isn't valid, in the order of looking: types, imports, functions, table, memory,
+-- globals, exports, start, elements, data. None where all is as it has to be around the bodies.
 use Rattle.std.specs.Prelude.{ℕ, suc, Bool, true, false, not, ◌&&◌, ◌==◌, nat_le, List, [], ◌∷◌, Option, Some, None, is_some, slice_get}
 use Rattle.std.specs.List.{list_all, list_any}
 use Rattle.std.specs.Str.{bytes_eq}
 use Rattle.ctw_ops.specs.declared.types.Label.{Label}
 use Rattle.ctw_ops.specs.declared.types.Label.TheVariants.{Public}
-use Rattle.ctw_ops.specs.declared.types.Width.{Width}
-use Rattle.ctw_ops.specs.declared.types.Width.TheVariants.{W32, W64}
+use Rattle.ctw_ops.specs.declared.types.Width.TheVariants.{W32}
 use Rattle.ctw_ops.specs.declared.types.Limits.{Limits}
 use Rattle.ctw_ops.specs.declared.types.ExternTag.{ExternTag}
 use Rattle.ctw_ops.specs.declared.types.ExternTag.TheVariants.{Func, Table, Memory, Global as GlobalTag}
 use Rattle.ctw_ops.specs.declared.fault.Space.{Space}
 use Rattle.ctw_ops.specs.declared.fault.Space.TheVariants as space
-use Rattle.ctw_ops.specs.Types.{ValueType, FunctionType, VariableType, MemoryType, value_type, type_byte}
+use Rattle.ctw_ops.specs.Types.{ValueType, FunctionType, VariableType, MemoryType, value_type}
 use Rattle.ctw_ops.specs.Tree.{Module, TypeEntry, Extern, ImportedFunction, ImportedTable, ImportedMemory, ImportedGlobal, Import, Function, Constant, Number, ValueOf, Global, Export, Element, Segment, imported_globals, memory_among, table_among, function_entries, global_types, type_named}
-use Rattle.ctw_ops.specs.Equal.{same_width}
+use Rattle.ctw_ops.specs.Equal.{same_type, erases_alike}
 use Rattle.ctw_ops.specs.Limits.{most_memory_pages}
 use Rattle.ctw_modcheck.specs.declared.fault.Invalid.{Invalid}
 use Rattle.ctw_modcheck.specs.declared.fault.Invalid.TheVariants.{ModuleIndex, DoubleExport, ConstExpr, LimitsOrder, StartType, SegmentType, Variant}
@@ -43,35 +42,25 @@ names things index = is_some (slice_get things index)
 
 -- ---- types
 
-abbrev pub same_widths : List (ValueType Label) → List (ValueType Label) → Bool
-same_widths [] [] = true
-same_widths (t ∷ ts) (u ∷ us) = same_width t.width u.width && same_widths ts us
-same_widths _ _ = false
-
-abbrev pub same_result_width : Option (ValueType Label) → Option (ValueType Label) → Bool
-same_result_width None None = true
-same_result_width (Some t) (Some u) = same_width t.width u.width
-same_result_width _ _ = false
-
--- whether two function types erase alike
-abbrev pub erase_alike : FunctionType Label → FunctionType Label → Bool
-erase_alike f g = same_widths f.params g.params && same_result_width f.result g.result
-
 abbrev pub is_variant : TypeEntry Label → Bool
 is_variant entry = is_some entry.base
 
 -- whether a variant's base is there, is no variant and erases like it
 abbrev pub is_based_on : FunctionType Label → Option (TypeEntry Label) → Bool
 is_based_on type None = false
-is_based_on type (Some base) = not (is_variant base) && erase_alike type base.type
+is_based_on type (Some base) = not (is_variant base) && erases_alike type base.type
 
 -- an entry with all entries and those behind it
 abbrev pub variant_fault : List (TypeEntry Label) → List (TypeEntry Label) → ℕ → TypeEntry Label → Option Invalid
-variant_fault all behind index entry = of_some (λ base. unless (list_all is_variant behind && is_based_on entry.type (slice_get all base)) (Variant index)) entry.base
+variant_fault all behind index entry =
+    of_some
+    (λ base.
+    unless (list_all is_variant behind && is_based_on entry.type (slice_get all base)) (Variant index)) entry.base
 
 abbrev pub types_fault : List (TypeEntry Label) → ℕ → List (TypeEntry Label) → Option Invalid
 types_fault all index [] = None
-types_fault all index (entry ∷ behind) = or_else (variant_fault all behind index entry) (types_fault all (suc index) behind)
+types_fault all index (entry ∷ behind) =
+    or_else (variant_fault all behind index entry) (types_fault all (suc index) behind)
 
 -- ---- limits, imports, functions
 
@@ -114,9 +103,6 @@ abbrev pub is_there : Module Label → Constant Label → Bool
 is_there m (Number type bits) = true
 is_there m (ValueOf global) = names (global_types m) global
 
-abbrev pub same_type : ValueType Label → ValueType Label → Bool
-same_type t u = type_byte t == type_byte u
-
 abbrev pub is_constant : Option (VariableType Label) → Bool
 is_constant None = false
 is_constant (Some g) = not g.mutable
@@ -138,7 +124,9 @@ is_of_type globals t (ValueOf global) = has_type t (slice_get globals global)
 abbrev pub global_fault : Module Label → ℕ → Global Label → Option Invalid
 global_fault m index g =
     or_else (unless (is_there m g.init) (ModuleIndex space.Globals index))
-    (unless (names_constant (imported_globals m.imports) g.init && is_of_type (imported_globals m.imports) g.type.value g.init) (ConstExpr space.Globals index))
+    (unless
+    (names_constant (imported_globals m.imports) g.init
+    && is_of_type (imported_globals m.imports) g.type.value g.init) (ConstExpr space.Globals index))
 
 -- ---- exports and start
 
@@ -154,12 +142,14 @@ has_name name exports = list_any (λ e. bytes_eq e.name name) exports
 
 abbrev pub export_fault : Module Label → List Export → ℕ → Export → Option Invalid
 export_fault m before index e =
-    or_else (unless (names_extern m e.kind e.index) (ModuleIndex space.Exports index)) (unless (not (has_name e.name before)) (DoubleExport index))
+    or_else (unless (names_extern m e.kind e.index) (ModuleIndex space.Exports index))
+    (unless (not (has_name e.name before)) (DoubleExport index))
 
 -- exports behind others
 abbrev pub exports_fault : Module Label → List Export → ℕ → List Export → Option Invalid
 exports_fault m before index [] = None
-exports_fault m before index (e ∷ exports) = or_else (export_fault m before index e) (exports_fault m (e ∷ before) (suc index) exports)
+exports_fault m before index (e ∷ exports) =
+    or_else (export_fault m before index e) (exports_fault m (e ∷ before) (suc index) exports)
 
 abbrev pub has_no_types : List (ValueType Label) → Option (ValueType Label) → Bool
 has_no_types [] None = true
@@ -188,7 +178,8 @@ offset_fault m where_ index found offset =
 
 abbrev pub element_fault : Module Label → ℕ → Element Label → Option Invalid
 element_fault m index e =
-    offset_fault m space.Elements index (names_extern m Table e.table && list_all (names (function_entries m)) e.functions) e.offset
+    offset_fault m space.Elements index
+    (names_extern m Table e.table && list_all (names (function_entries m)) e.functions) e.offset
 
 abbrev pub segment_fault : Module Label → ℕ → Segment Label → Option Invalid
 segment_fault m index s = offset_fault m space.Segments index (names_extern m Memory s.memory) s.offset

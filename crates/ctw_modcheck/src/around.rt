@@ -1,5 +1,7 @@
 ghost use Rattle.ctw_module.specs.Trees.{tree};
-ghost use Rattle.ctw_modcheck.specs.Answers.{Answers, Finds};
+ghost use Rattle.ctw_modcheck.specs.Answers.{Answers};
+ghost use Rattle.ctw_ops.specs.FirstFault.{FindsFault};
+ghost use Rattle.ctw_modcheck.specs.declared.fault.Invalid.TheVariants.{NoMemory};
 ghost use Rattle.ctw_modcheck.specs.Faults.{around_fault, first_in, import_fault, memory_fault, of_some, table_fault};
 ghost use Rattle.ctw_ops.specs.declared.fault.Space.TheVariants.{Tables, Memories};
 ghost use Rattle.std.specs.Prelude.{◌≡◌, None};
@@ -18,7 +20,7 @@ use std::alloc::Global;
 
 /// The first fault around the bodies.
 pub fn check_around(alloc: Global, m: &Module) -> Result<(), Invalid>
-    ensures { Finds result (around_fault (tree m.now)) }
+    ensures { FindsFault NoMemory result (around_fault (tree m.now)) }
 {
     check_types(m)?;
     check_imports(m)?;

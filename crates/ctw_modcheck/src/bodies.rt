@@ -4,21 +4,22 @@ ghost use Rattle.ctw_ops.specs.Tree.{Function, function_entries};
 ghost use Rattle.ctw_module.specs.Lookup.{imported_count, function_named};
 ghost use Rattle.ctw_module.specs.Trees.{tree, view_module};
 ghost use Rattle.ctw_valid.specs.Named.{AreTyped};
-ghost use Rattle.ctw_modcheck.specs.Answers.{Finds};
+ghost use Rattle.ctw_ops.specs.FirstFault.{FindsFault};
+ghost use Rattle.ctw_modcheck.specs.declared.fault.Invalid.TheVariants.{NoMemory};
 ghost use Rattle.ctw_modcheck.specs.Check.{bodies_fault, function_body_fault};
 
 use crate::fault::Invalid;
-use crate::functions::imported_functions;
 use ctw_module::Module;
+use ctw_ops::ExternTag;
 use ctw_valid::{BodyFault, Checker};
 use std::alloc::Global;
 
 /// The first fault of the bodies. Each function's type index names a type.
 pub fn check_bodies(alloc: Global, m: &Module) -> Result<(), Invalid>
     requires { AreTyped (tree m.now) }
-    ensures { Finds result (bodies_fault (view_module m.now)) }
+    ensures { FindsFault NoMemory result (bodies_fault (view_module m.now)) }
 {
-    let imported = imported_functions(m);
+    let imported = m.imported_count(ExternTag::Func);
     let mut checker = Checker::new(alloc);
     'functions: for i in 0..m.func_count() - imported {
         check_function_body(&mut checker, m, imported + i)?;
@@ -31,7 +32,8 @@ fn check_function_body(checker: &mut Checker, m: &Module, f: u32) -> Result<(), 
     requires typed { AreTyped (tree m.now) }
     requires defined { imported_count (tree m.now) ≤ f }
     requires there { f < length (function_entries (tree m.now)) }
-    ensures { (function : Function Label) → function_named (tree m.now) f ≡ Some function → Finds result (function_body_fault (view_module m.now) f function) }
+    ensures { (function : Function Label) → function_named (tree m.now) f ≡ Some function
+        → FindsFault NoMemory result (function_body_fault (view_module m.now) f function) }
 {
     match checker.check_body(m, f) {
         Ok(()) => Ok(()),

@@ -1,6 +1,7 @@
 ghost use Rattle.std.specs.Prelude.{[]};
 ghost use Rattle.ctw_module.specs.Trees.{tree};
-ghost use Rattle.ctw_modcheck.specs.Answers.{Finds};
+ghost use Rattle.ctw_ops.specs.FirstFault.{FindsFault};
+ghost use Rattle.ctw_modcheck.specs.declared.fault.Invalid.TheVariants.{NoMemory};
 ghost use Rattle.ctw_modcheck.specs.Faults.{exports_fault};
 
 use crate::fault::Invalid;
@@ -13,7 +14,7 @@ use std::collections::BTreeSet;
 /// The first fault of the exports: one names what isn't there, or has the name of an earlier one. NoMemory leaves
 /// nothing behind.
 pub fn check_exports(alloc: Global, m: &Module) -> Result<(), Invalid>
-    ensures { Finds result (exports_fault (tree m.now) [] 0 (tree m.now).exports) }
+    ensures { FindsFault NoMemory result (exports_fault (tree m.now) [] 0 (tree m.now).exports) }
 {
     let mut names: BTreeSet<&str> = BTreeSet::new(alloc);
     'exports: for index in 0..m.export_count() {

@@ -6,8 +6,8 @@ use ctw_valid::BodyFault;
 use std::alloc::{AllocError, AllocFailed};
 use thiserror::Error;
 
-/// Why a module isn't valid. `space` and `index` name the item, counted in its own list from 0: for functions and globals
-/// the defined ones.
+/// Why a module isn't valid. `space` and `index` name the item, counted in its own list from 0: for functions and
+/// globals the defined ones.
 #[derive(Clone, Copy, Debug, PartialEq, Eq, Error)]
 pub enum Invalid {
     /// A body doesn't have its function's type.
@@ -32,7 +32,8 @@ pub enum Invalid {
         /// The export's number.
         index: u32,
     },
-    /// A global's or a segment's expression names a global that it may not, or a global's has another type than the global.
+    /// A global's or a segment's expression names a global that it may not,
+    /// or a global's has another type than the global.
     #[error("bad constant expression in {space:?} {index}")]
     ConstExpr {
         /// The item's list.

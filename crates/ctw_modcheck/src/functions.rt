@@ -1,4 +1,4 @@
-ghost use Rattle.std.specs.Prelude.{◌≡◌, ◌<◌, ◌+◌, ◌≤◌, length};
+ghost use Rattle.std.specs.Prelude.{◌≡◌, ◌<◌, ◌+◌, length};
 ghost use Rattle.ctw_ops.specs.Tree.{function_entries, type_named};
 ghost use Rattle.ctw_module.specs.Lookup.{imported_count};
 ghost use Rattle.ctw_module.specs.Trees.{tree};
@@ -7,26 +7,13 @@ ghost use Rattle.ctw_modcheck.specs.Faults.{first_in, of_some, function_fault, s
 
 use crate::fault::Invalid;
 use ctw_module::Module;
-use ctw_ops::Space;
-
-/// How many functions are imported.
-pub fn imported_functions(m: &Module) -> u32
-    ensures count { result ≡ imported_count (tree m.now) }
-    ensures within { result ≤ length (function_entries (tree m.now)) }
-{
-    'functions: for f in 0..m.func_count() {
-        if m.body(f).is_some() {
-            return f;
-        }
-    }
-    m.func_count()
-}
+use ctw_ops::{ExternTag, Space};
 
 /// The first fault of the defined functions' types.
 pub fn check_functions(m: &Module) -> Result<(), Invalid>
     ensures { Answers result (first_in (function_fault (tree m.now)) 0 (tree m.now).functions) }
 {
-    let imported = imported_functions(m);
+    let imported = m.imported_count(ExternTag::Func);
     'functions: for i in 0..m.func_count() - imported {
         check_function(m, imported + i, i)?;
     }

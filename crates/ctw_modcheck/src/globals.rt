@@ -1,6 +1,6 @@
-ghost use Rattle.std.specs.Prelude.{◌≡◌, ◌<◌, ◌+◌, ◌≤◌, ◌&&◌, ◌^◌, length};
+ghost use Rattle.std.specs.Prelude.{◌≡◌, ◌<◌, ◌+◌, ◌&&◌, ◌^◌, length};
 ghost use Rattle.ctw_ops.specs.Tree.{global_types, imported_globals};
-ghost use Rattle.ctw_module.specs.Shown.{constant_of};
+ghost use Rattle.ctw_form.specs.Shown.{constant_of};
 ghost use Rattle.ctw_module.specs.Trees.{tree};
 ghost use Rattle.ctw_modcheck.specs.Answers.{Answers, fault_at};
 ghost use Rattle.ctw_modcheck.specs.Faults.{first_in, global_fault, is_of_type, names_constant};
@@ -8,26 +8,13 @@ ghost use Rattle.ctw_modcheck.specs.Faults.{first_in, global_fault, is_of_type, 
 use crate::fault::Invalid;
 use crate::names::names_global;
 use ctw_module::{ConstExpr, Global1, Module};
-use ctw_ops::{Space, ValType};
-
-/// How many globals are imported.
-fn imported_count(m: &Module) -> u32
-    ensures count { result ≡ length (imported_globals (tree m.now).imports) }
-    ensures within { result ≤ length (global_types (tree m.now)) }
-{
-    'globals: for g in 0..m.global_count() {
-        if m.global(g).init.is_some() {
-            return g;
-        }
-    }
-    m.global_count()
-}
+use ctw_ops::{ExternTag, Space, ValType};
 
 /// The first fault of the defined globals.
 pub fn check_globals(m: &Module) -> Result<(), Invalid>
     ensures { Answers result (first_in (global_fault (tree m.now)) 0 (tree m.now).globals) }
 {
-    let imported = imported_count(m);
+    let imported = m.imported_count(ExternTag::Global);
     'globals: for i in 0..m.global_count() - imported {
         check_global(m, imported, i)?;
     }
@@ -44,7 +31,7 @@ fn check_global(m: &Module, imported: u32, i: u32) -> Result<(), Invalid>
 {
     let Global1 { ty, init } = m.global(imported + i);
     let Some(init) = init else {
-        return Ok(());
+        unreachable!();
     };
     if !names_global(m, &init) {
         return Err(Invalid::ModuleIndex {
@@ -64,7 +51,9 @@ fn check_global(m: &Module, imported: u32, i: u32) -> Result<(), Invalid>
 /// Whether an expression is a number of the type, or names an imported constant of the type.
 fn is_initial(m: &Module, imported: u32, ty: ValType, init: &ConstExpr) -> bool
     requires { imported ≡ length (imported_globals (tree m.now).imports) }
-    ensures { result ≡ (names_constant (imported_globals (tree m.now).imports) (constant_of init.now) && is_of_type (imported_globals (tree m.now).imports) ty (constant_of init.now)) }
+    ensures { result
+        ≡ (names_constant (imported_globals (tree m.now).imports) (constant_of init.now)
+        && is_of_type (imported_globals (tree m.now).imports) ty (constant_of init.now)) }
 {
     match init {
         ConstExpr::Const { value, .. } => *value == ty,

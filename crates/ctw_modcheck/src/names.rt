@@ -1,5 +1,5 @@
 ghost use Rattle.std.specs.Prelude.{◌≡◌};
-ghost use Rattle.ctw_module.specs.Shown.{constant_of};
+ghost use Rattle.ctw_form.specs.Shown.{constant_of};
 ghost use Rattle.ctw_module.specs.Trees.{tree};
 ghost use Rattle.ctw_modcheck.specs.Faults.{names_extern, is_there};
 

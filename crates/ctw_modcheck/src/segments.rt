@@ -4,7 +4,7 @@ ghost use Rattle.ctw_ops.specs.Tree.{function_entries, global_types};
 ghost use Rattle.ctw_ops.specs.Types.{value_type};
 ghost use Rattle.ctw_ops.specs.declared.types.Label.TheVariants.{Public};
 ghost use Rattle.ctw_ops.specs.declared.types.Width.TheVariants.{W32};
-ghost use Rattle.ctw_module.specs.Shown.{constant_of};
+ghost use Rattle.ctw_form.specs.Shown.{constant_of};
 ghost use Rattle.ctw_module.specs.Trees.{tree};
 ghost use Rattle.ctw_modcheck.specs.Answers.{Answers};
 ghost use Rattle.ctw_modcheck.specs.Faults.{first_in, names, is_there, names_constant, is_of_type, offset_fault, element_fault, segment_fault};
@@ -24,10 +24,9 @@ const OFFSET: ValType = ValType {
 pub fn check_elements(m: &Module) -> Result<(), Invalid>
     ensures { Answers result (first_in (element_fault (tree m.now)) 0 (tree m.now).elements) }
 {
-    // There are no more than the file has bytes.
-    'elements: for i in 0..m.bytes().len() as u32 {
+    'elements: for i in 0..m.element_count() {
         let Some(element) = m.element(i) else {
-            return Ok(());
+            unreachable!();
         };
         check_element(m, i, &element)?;
     }
@@ -38,10 +37,9 @@ pub fn check_elements(m: &Module) -> Result<(), Invalid>
 pub fn check_segments(m: &Module) -> Result<(), Invalid>
     ensures { Answers result (first_in (segment_fault (tree m.now)) 0 (tree m.now).segments) }
 {
-    // There are no more than the file has bytes.
-    'segments: for i in 0..m.bytes().len() as u32 {
+    'segments: for i in 0..m.segment_count() {
         let Some(segment) = m.segment(i) else {
-            return Ok(());
+            unreachable!();
         };
         check_segment(m, i, &segment)?;
     }

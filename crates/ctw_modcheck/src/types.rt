@@ -1,11 +1,13 @@
-ghost use Rattle.std.specs.Prelude.{◌≡◌, ◌<◌, [], drop, length, IsTrue, IfSome};
+ghost use Rattle.std.specs.Prelude.{◌≡◌, ◌<◌, [], drop, length, map, option_map, IsTrue, IfSome};
 ghost use Rattle.std.specs.List.{list_all, position};
-ghost use Rattle.ctw_ops.specs.Types.{byte_type, byte_types, is_type_byte};
+ghost use Rattle.ctw_ops.specs.Types.{byte_type, byte_types, is_type_byte, erase_value_type};
+ghost use Rattle.ctw_ops.specs.Equal.{same_types, same_result, erases_alike};
 ghost use Rattle.ctw_module.specs.Trees.{tree};
 ghost use Rattle.ctw_modcheck.specs.Answers.{Answers, fault_at};
-ghost use Rattle.ctw_modcheck.specs.Faults.{erase_alike as are_alike, is_variant, same_widths, same_result_width, variant_fault, types_fault};
+ghost use Rattle.ctw_modcheck.specs.Faults.{is_variant, variant_fault, types_fault};
 
 use crate::fault::Invalid;
+use ctw_flat::type_of_byte;
 use ctw_module::Module;
 use ctw_ops::{FuncType, ValType, Width};
 
@@ -69,7 +71,7 @@ fn check_base(m: &Module, i: u32) -> Result<(), Invalid>
 
 /// Whether two types are alike but for their labels and trust.
 fn erase_alike(a: &FuncType, b: &FuncType) -> bool
-    ensures { result ≡ are_alike a.now b.now }
+    ensures { result ≡ erases_alike a.now b.now }
 {
     have_same_widths(a.params, b.params) && have_same_width(a.result, b.result)
 }
@@ -78,7 +80,7 @@ fn erase_alike(a: &FuncType, b: &FuncType) -> bool
 fn have_same_widths(a: &[u8], b: &[u8]) -> bool
     requires first { IsTrue (list_all is_type_byte a.now) }
     requires second { IsTrue (list_all is_type_byte b.now) }
-    ensures { result ≡ same_widths (byte_types a.now) (byte_types b.now) }
+    ensures { result ≡ same_types (map erase_value_type (byte_types a.now)) (map erase_value_type (byte_types b.now)) }
 {
     if a.len() != b.len() {
         return false;
@@ -96,15 +98,15 @@ fn width_of(byte: u8) -> Width
     requires { IsTrue (is_type_byte byte) }
     ensures { IfSome (byte_type byte) (λ t. result ≡ t.width) }
 {
-    match byte {
-        0x7F | 0x7A => Width::W32,
-        _ => Width::W64,
+    match type_of_byte(byte) {
+        Some(t) => t.width,
+        None => unreachable!(),
     }
 }
 
 /// Whether both results are missing, or have the same width.
 fn have_same_width(a: Option<ValType>, b: Option<ValType>) -> bool
-    ensures { result ≡ same_result_width a b }
+    ensures { result ≡ same_result (option_map erase_value_type a) (option_map erase_value_type b) }
 {
     match (a, b) {
         (Some(a), Some(b)) => a.width == b.width,

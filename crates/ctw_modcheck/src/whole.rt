@@ -12,9 +12,9 @@ use ctw_module::Module;
 use std::alloc::Global;
 
 /// Whether a module is valid under its profile (W3C WebAssembly Core 1.0, section 3.4, with the labels and trust of
-/// CT-Wasm and the variants of CT modules). Where it isn't, the answer is the first fault in the order of types, imports,
-/// functions, table, memory, globals, exports, start, elements, data and bodies; within one item ModuleIndex comes
-/// before ConstExpr, and that before the others.
+/// CT-Wasm and the variants of CT modules). Where it isn't, the answer is the first fault in the order of types,
+/// imports, functions, table, memory, globals, exports, start, elements, data and bodies; within one item ModuleIndex
+/// comes before ConstExpr, and that before the others.
 ///
 /// Takes linear time but for the names of exports, which are sorted, and the look-ups of locals. `NoMemory` comes for
 /// want of memory alone, and a `Body` never holds one.

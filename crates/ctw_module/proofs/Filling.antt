@@ -7,24 +7,24 @@ use Rattle.ctw_leb.specs.Grammar.{OneOf, state_after}
 use Rattle.ctw_leb.specs.Reading.{Reader, chain, ends, alone, passed, times, refused, items, items_in}
 use Rattle.ctw_leb.proofs.Exact.{ok_is, err_ok, chain_ok, chosen}
 use Rattle.ctw_leb.proofs.Loops.{left_items, left_items_fault, items_next}
-use Rattle.ctw_module.specs.declared.fault.FormKind.{FormKind}
-use Rattle.ctw_module.specs.declared.fault.FormKind.TheVariants.{BadSection, SizeMismatch, TooMany}
-use Rattle.ctw_module.specs.declared.fault.FormFault.{FormFault}
-use Rattle.ctw_module.specs.declared.table.SectionKind.{SectionKind}
-use Rattle.ctw_module.specs.declared.table.SectionKind.TheVariants as kind
-use Rattle.ctw_module.specs.declared.sections.Seen.{Seen}
-use Rattle.ctw_module.specs.declared.lists.ListFault.{ListFault}
+use Rattle.ctw_form.specs.declared.fault.FormKind.{FormKind}
+use Rattle.ctw_form.specs.declared.fault.FormKind.TheVariants.{BadSection, SizeMismatch, TooMany}
+use Rattle.ctw_form.specs.declared.fault.FormFault.{FormFault}
+use Rattle.ctw_form.specs.declared.table.SectionKind.{SectionKind}
+use Rattle.ctw_form.specs.declared.table.SectionKind.TheVariants as kind
+use Rattle.ctw_form.specs.declared.sections.Seen.{Seen}
+use Rattle.ctw_form.specs.declared.lists.ListFault.{ListFault}
 use Rattle.ctw_module.specs.declared.found.Found.{Found}
-use Rattle.ctw_module.specs.Tables.{section_kind, rising}
-use Rattle.ctw_module.specs.Sections.{Section, Parts, no_parts, with_section, nothing_seen, seen_after}
-use Rattle.ctw_module.specs.Spelled.{room, IsSection}
-use Rattle.ctw_module.specs.Read.{fault, inside, number_at, upto_at, vector_upto_at, only_at, by_table, insides_at, contents_at, section_at}
-use Rattle.ctw_module.specs.Pieces.{window_at, section_kind_at}
+use Rattle.ctw_form.specs.Tables.{section_kind, rising}
+use Rattle.ctw_form.specs.Sections.{Section, Parts, no_parts, with_section, nothing_seen, seen_after}
+use Rattle.ctw_form.specs.Spelled.{room, IsSection}
+use Rattle.ctw_form.specs.Read.{fault, inside, number_at, upto_at, vector_upto_at, only_at, by_table, insides_at, contents_at, section_at}
+use Rattle.ctw_form.specs.Pieces.{window_at, section_kind_at}
 use Rattle.ctw_module.specs.Gathers.{Gathers, Fills, Takes}
-use Rattle.ctw_module.proofs.TypeForms.{exact_by_table}
-use Rattle.ctw_module.proofs.SectionForms.{exact_section, section_filled}
-use Rattle.ctw_module.proofs.SizedWindows.{in_window, sized_window}
-use Rattle.ctw_module.proofs.Gathering.{refused_ok, ok_pair}
+use Rattle.ctw_form.proofs.TypeForms.{exact_by_table}
+use Rattle.ctw_form.proofs.SectionForms.{exact_section, section_filled}
+use Rattle.ctw_form.proofs.SizedWindows.{in_window, sized_window}
+use Rattle.ctw_form.proofs.Gathering.{refused_ok, ok_pair}
 
 -- ---- the items of a section
 

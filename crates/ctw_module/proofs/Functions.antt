@@ -5,15 +5,15 @@ use Rattle.std.proofs.lemmas.List.{length-append, length-map}
 use Rattle.std.proofs.lemmas.Option.{slice_get_within}
 use Rattle.ctw_ops.specs.declared.types.Label.{Label}
 use Rattle.ctw_ops.specs.Tree.{Module, Function, imported_functions, function_entries}
-use Rattle.ctw_module.specs.Sections.{Entry, Parts, locals_of, functions_of}
-use Rattle.ctw_module.specs.Spelled.{Spells}
+use Rattle.ctw_form.specs.Sections.{Entry, Parts, locals_of, functions_of}
+use Rattle.ctw_form.specs.Spelled.{Spells}
 use Rattle.ctw_module.specs.Trees.{Lent, tree, parts, code_of}
 use Rattle.ctw_module.specs.Lookup.{imported_count, function_named}
-use Rattle.ctw_module.specs.Slots.{Coded, coded_behind}
+use Rattle.ctw_form.specs.Slots.{Coded, coded_behind}
 use Rattle.ctw_module.specs.declared.«module».Module.TheInside.{Inside}
 use Rattle.ctw_module.specs.View.{IsView, lent_by}
-use Rattle.ctw_module.proofs.Weights.{Every, weight}
-use Rattle.ctw_module.proofs.Brought.{IsCoded, code_length}
+use Rattle.ctw_form.proofs.Weights.{Every, weight}
+use Rattle.ctw_form.proofs.Brought.{IsCoded, code_length}
 use Rattle.ctw_module.proofs.Known.{Known, known, functions_length}
 
 pub every_at : {A : Type 0} (P : A → Type 0) (l : List A) (k : ℕ) (d : A) → Every P l → k < length l → P (get_or l k d)

@@ -4,7 +4,7 @@ use Rattle.std.specs.Prelude.{IfOk, is_ok, IsSome, is_some, not, nat_eq, option_
 use Rattle.std.proofs.lemmas.Bool.{false≢true}
 use denote.Ref.{Bor}
 use Rattle.std.specs.Str.{bytes_eq}
-use Rattle.std.proofs.lemmas.List.{length-append, map-append}
+use Rattle.std.proofs.lemmas.List.{length-append, length-map, map-append}
 use Rattle.std.proofs.lemmas.Grind.{take_at_read}
 use Rattle.std.proofs.Math.Seq.{take-length}
 use Rattle.std.proofs.lemmas.Slice.Eq.{bytes_eq-Decides}
@@ -12,21 +12,21 @@ use Rattle.ctw_ops.specs.declared.types.ExternTag.{ExternTag}
 use Rattle.ctw_ops.specs.declared.types.Label.{Label}
 use Rattle.ctw_ops.specs.Types.{VariableType}
 use Rattle.ctw_ops.specs.Tree.{Import, Extern, ImportedFunction, ImportedTable, ImportedMemory, ImportedGlobal, Constant, Export, Global, Module, imported_functions, imported_globals, with_function, with_global, function_entries, global_types}
-use Rattle.ctw_module.specs.declared.fault.FormFault.{FormFault}
+use Rattle.ctw_form.specs.declared.fault.FormFault.{FormFault}
 use Rattle.ctw_module.specs.declared.types.Global1.{Global1}
-use Rattle.ctw_module.specs.declared.entry.GlobalEntry.{GlobalEntry}
-use Rattle.ctw_module.specs.declared.entry.ImportKind.{ImportKind}
-use Rattle.ctw_module.specs.declared.entry.ImportKind.TheVariants as kinds
-use Rattle.ctw_module.specs.Shown.{constant_of, extern_of, global_in}
+use Rattle.ctw_form.specs.declared.entry.GlobalEntry.{GlobalEntry}
+use Rattle.ctw_form.specs.declared.entry.ImportKind.{ImportKind}
+use Rattle.ctw_form.specs.declared.entry.ImportKind.TheVariants as kinds
+use Rattle.ctw_form.specs.Shown.{constant_of, extern_of, global_in}
 use Rattle.ctw_module.specs.Lookup.{export_in, imported_count, global_inits}
-use Rattle.ctw_module.specs.Sections.{Entry, Section, no_parts, with_section, functions_of, nothing_seen, seen_after}
-use Rattle.ctw_module.specs.Spelled.{Spells, File, file_of, IsFile, IsSection, magic, version, module_in}
-use Rattle.ctw_module.specs.Read.{section_at, module_at}
+use Rattle.ctw_form.specs.Sections.{Entry, Section, no_parts, with_section, functions_of, nothing_seen, seen_after}
+use Rattle.ctw_form.specs.Spelled.{Spells, File, file_of, IsFile, IsSection, magic, version, module_in}
+use Rattle.ctw_form.specs.Read.{section_at, module_at}
 use Rattle.ctw_module.specs.Trees.{Lent, tree, parts}
 use Rattle.ctw_leb.specs.Input.{Input}
 use Rattle.ctw_leb.specs.Grammar.{Items, state_after}
 use Rattle.ctw_leb.specs.Reading.{items}
-use Rattle.ctw_module.proofs.FileForms.{whole_section_items, module_sound}
+use Rattle.ctw_form.proofs.FileForms.{whole_section_items, module_sound}
 use Rattle.ctw_module.proofs.Known.{known, file_is}
 
 pub functions_more : (front : List (Import Label)) (i : Import Label) → imported_functions (front ++ i ∷ []) ≡ imported_functions front ++ with_function i.kind []
@@ -199,6 +199,12 @@ functions_made lent imports uses all s i u a =
 pub imported_made : (lent : Lent) (imports : List (Import Label)) (uses all : List ℕ) → imports ≡ (parts lent).imports → all ≡ imported_functions imports ++ uses → length all - length uses ≡ imported_count (tree lent)
 unfolding tree parts
 imported_made lent imports uses all i a = omega (arith, ap length a, length-append (imported_functions imports) uses, ap (λ (l : List (Import Label)). length (imported_functions l)) i)
+
+pub imported_globals_made : (lent : Lent) (imports : List (Import Label)) (defined : List GlobalEntry) (all : List Global1) → imports ≡ (parts lent).imports → map (λ g. g.ty) all ≡ imported_globals imports ++ map (λ g. g.ty) defined
+    → length all - length defined ≡ length (imported_globals (tree lent).imports)
+unfolding tree parts
+imported_globals_made lent imports defined all i a =
+    omega (arith, ap length a, length-map all (λ g. g.ty), length-append (imported_globals imports) (map (λ g. g.ty) defined), length-map defined (λ g. g.ty), ap (λ (l : List (Import Label)). length (imported_globals l)) i)
 
 types_of_globals : (l : List GlobalEntry) → map (λ g. g.ty) l ≡ map (λ g. g.type) (map global_in l)
 types_of_globals [] = refl

@@ -2,15 +2,15 @@
 use Rattle.std.proofs.Common.{◌≡◌, ℕ, suc, ◌<◌, ◌≤◌, ◌^◌, List, [], ◌∷◌, length, map, refl, ap, arith}
 use Rattle.std.proofs.lemmas.List.{length-append, length-map}
 use Rattle.ctw_ops.specs.declared.types.Label.{Label}
-use Rattle.ctw_ops.specs.Tree.{Module, Import, Extern, ImportedFunction, ImportedTable, ImportedMemory, ImportedGlobal, with_function, with_global, imported_functions, imported_globals, function_entries, global_types}
-use Rattle.ctw_module.specs.Sections.{Entry, Parts, functions_of}
-use Rattle.ctw_module.specs.Spelled.{Spells}
+use Rattle.ctw_ops.specs.Tree.{Module, Import, Element, Extern, ImportedFunction, ImportedTable, ImportedMemory, ImportedGlobal, with_function, with_global, imported_functions, imported_globals, function_entries, global_types}
+use Rattle.ctw_form.specs.Sections.{Entry, Parts, functions_of}
+use Rattle.ctw_form.specs.Spelled.{Spells}
 use Rattle.ctw_module.specs.Trees.{Lent, tree, parts, file_of_bytes, or_empty}
 use Rattle.ctw_module.specs.declared.«module».Module.TheInside.{Inside}
 use Rattle.ctw_module.specs.View.{IsView, lent_by}
-use Rattle.ctw_module.proofs.FileForms.{spelled_file}
-use Rattle.ctw_module.proofs.Weights.{Every, weight}
-use Rattle.ctw_module.proofs.Brought.{HasFewParams, IsCoded, size_of, heft, file_brings}
+use Rattle.ctw_form.proofs.FileForms.{spelled_file}
+use Rattle.ctw_form.proofs.Weights.{Every, weight}
+use Rattle.ctw_form.proofs.Brought.{HasFewParams, IsCoded, size_of, heft, file_brings}
 
 -- what the sections of a whole file have brought
 pub record Known (bytes : List ℕ) (p : Parts) : Type 0 where
@@ -56,6 +56,10 @@ functions_length [] entries e = refl
 functions_length (u ∷ uses) [] e = absurd (omega (arith, e))
 functions_length (u ∷ uses) (x ∷ entries) e = ap suc (functions_length uses entries (omega (arith, e)))
 
+pub heft_length : (elements : List (Element Label)) → length elements ≤ weight heft elements
+heft_length [] = omega arith
+heft_length (e ∷ elements) = omega (arith, heft_length elements)
+
 -- how much is there
 pub record Few (lent : Lent) : Type 0 where
   pub types : length (tree lent).types < 2 ^ 32
@@ -64,6 +68,8 @@ pub record Few (lent : Lent) : Type 0 where
   pub globals : length (global_types (tree lent)) < 2 ^ 32
   pub exports : length (tree lent).exports < 2 ^ 32
   pub elements : weight heft (tree lent).elements < 2 ^ 32
+  pub segments : length (tree lent).segments < 2 ^ 32
+  pub customs : length (tree lent).customs < 2 ^ 32
 
 pub few : (lent : Lent) → length lent.bytes < 2 ^ 32 → Spells lent.bytes (tree lent) → Few lent
 unfolding tree parts
@@ -78,6 +84,8 @@ few lent short s =
       globals = omega (arith, k.size, few_globals p.imports, length-append (imported_globals p.imports) (map (λ g. g.type) p.globals), length-map p.globals (λ g. g.type));
       exports = omega (arith, k.size);
       elements = omega (arith, k.size);
+      segments = omega (arith, k.size);
+      customs = omega (arith, k.size);
     }
 
 pub view_few : (v : Inside) → IsView v (lent_by v) → Few (lent_by v)

@@ -5,11 +5,11 @@ use Rattle.std.proofs.lemmas.List.{length-append}
 use Rattle.ctw_ops.specs.declared.types.Label.{Label}
 use Rattle.ctw_ops.specs.Types.{ValueType, byte_type, byte_types, is_type_byte}
 use Rattle.ctw_ops.specs.Tree.{Module, Function, type_named}
-use Rattle.ctw_module.specs.declared.slots.LocalRun.{LocalRun}
-use Rattle.ctw_module.specs.Sections.{locals_of}
-use Rattle.ctw_module.specs.Slots.{IsRunsOf}
+use Rattle.ctw_form.specs.declared.slots.LocalRun.{LocalRun}
+use Rattle.ctw_form.specs.Sections.{locals_of}
+use Rattle.ctw_module.specs.Runs.{IsRunsOf}
 use Rattle.ctw_module.specs.Lookup.{function_named, local_types, locals_of_some, locals_named}
-use Rattle.ctw_module.proofs.Params.{types_length, types_at, slice_get_left, slice_get_right}
+use Rattle.ctw_form.proofs.Params.{types_length, types_at, slice_get_left, slice_get_right}
 
 -- a function that has a local is there
 pub has_function : (m : Module Label) (f i : ℕ) → i < length (locals_named m f) → (function : Function Label) × (function_named m f ≡ Some function)

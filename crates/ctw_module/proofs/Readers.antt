@@ -4,20 +4,21 @@ use Rattle.std.proofs.lemmas.List.{length-map}
 use Rattle.std.proofs.lemmas.Option.{slice_get-get_or}
 use Rattle.ctw_ops.specs.declared.types.Label.{Label}
 use Rattle.ctw_ops.specs.Tree.{Element, Function, type_named}
-use Rattle.ctw_module.specs.declared.slots.LocalRun.{LocalRun}
-use Rattle.ctw_module.specs.declared.slots.ElementSlot.{ElementSlot}
+use Rattle.ctw_form.specs.declared.slots.LocalRun.{LocalRun}
+use Rattle.ctw_form.specs.declared.slots.ElementSlot.{ElementSlot}
 use Rattle.ctw_module.specs.declared.«module».Module.TheInside.{Inside}
 use Rattle.ctw_ops.specs.Limits.{most_params}
-use Rattle.ctw_module.specs.Sections.{Entry}
-use Rattle.ctw_module.specs.Spelled.{Spells}
+use Rattle.ctw_form.specs.Sections.{Entry}
+use Rattle.ctw_form.specs.Spelled.{Spells}
 use Rattle.ctw_module.specs.Trees.{Lent, tree, parts}
-use Rattle.ctw_module.specs.Slots.{runs_of, Coded, coded_behind, Headed, headed, element_functions, IsRunsOf}
+use Rattle.ctw_form.specs.Slots.{runs_of, Coded, coded_behind, Headed, headed, element_functions}
+use Rattle.ctw_module.specs.Runs.{IsRunsOf}
 use Rattle.ctw_module.specs.View.{IsView}
-use Rattle.ctw_module.proofs.Brought.{heft}
+use Rattle.ctw_form.proofs.Brought.{heft}
 use Rattle.ctw_module.proofs.Known.{few, known}
 use Rattle.ctw_module.proofs.Functions.{Defined, coded_length, weight_at}
-use Rattle.ctw_module.proofs.Params.{named_few}
-use Rattle.ctw_module.proofs.Parts.{flat, flat_upto, part, part_is, runs_in, runs_flat, coded_runs, functions_in, functions_flat, headed_length, headed_at, head_of}
+use Rattle.ctw_form.proofs.Params.{named_few}
+use Rattle.ctw_form.proofs.Parts.{flat, flat_upto, part, part_is, runs_in, runs_flat, coded_runs, functions_in, functions_flat, headed_length, headed_at, head_of}
 
 -- ---- runs
 

@@ -1,12 +1,12 @@
 -- What is gathered of a file's sections.
 use Rattle.std.specs.Prelude.{◌≡◌, map, Result, Ok, Err}
 use Rattle.ctw_leb.specs.Input.{Input}
-use Rattle.ctw_module.specs.declared.lists.ListFault.{ListFault}
-use Rattle.ctw_module.specs.declared.lists.ListFault.TheVariants.{Bad, NoMemory}
+use Rattle.ctw_form.specs.declared.lists.ListFault.{ListFault}
+use Rattle.ctw_form.specs.declared.lists.ListFault.TheVariants.{Bad, NoMemory}
 use Rattle.ctw_module.specs.declared.found.Found.{Found}
-use Rattle.ctw_module.specs.Sections.{Parts}
-use Rattle.ctw_module.specs.Shown.{global_in}
-use Rattle.ctw_module.specs.Slots.{runs_of, coded_behind, headed, headed_behind, element_functions}
+use Rattle.ctw_form.specs.Sections.{Parts}
+use Rattle.ctw_form.specs.Shown.{global_in}
+use Rattle.ctw_form.specs.Slots.{runs_of, coded_behind, headed, headed_behind, element_functions}
 
 -- what was found is what the sections bring
 pub record Gathers (found : Found) (p : Parts) : Type 0 where

@@ -1,14 +1,6 @@
-pub mod Limits
-pub mod Tables
-pub mod Sections
-pub mod Spelled
-pub mod Read
 pub mod Trees
 pub mod Lookup
-pub mod Shown
-pub mod Slots
 pub mod Given
+pub mod Runs
 pub mod View
-pub mod Pieces
-pub mod Gathered
 pub mod Gathers

@@ -5,10 +5,10 @@ use Rattle.ctw_ops.specs.declared.numeric.Profile.TheVariants.{Divide}
 use Rattle.ctw_ops.specs.declared.types.Label.{Label}
 use Rattle.ctw_ops.specs.Tree.{Module, under}
 use Rattle.ctw_leb.specs.Grammar.{state_after}
-use Rattle.ctw_module.specs.declared.fault.FormFault.{FormFault}
-use Rattle.ctw_module.specs.Sections.{Parts, no_parts, with_section}
-use Rattle.ctw_module.specs.Spelled.{File, file_of, module_in}
-use Rattle.ctw_module.specs.Read.{file_at}
+use Rattle.ctw_form.specs.declared.fault.FormFault.{FormFault}
+use Rattle.ctw_form.specs.Sections.{Parts, no_parts, with_section}
+use Rattle.ctw_form.specs.Spelled.{File, file_of, module_in}
+use Rattle.ctw_form.specs.Read.{file_at}
 
 -- what a view stands for: the bytes of its file, and a profile, which isn't spelled
 pub record Lent : Type 0 where

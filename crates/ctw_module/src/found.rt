@@ -2,14 +2,15 @@ ghost use Rattle.std.specs.Prelude.{◌≡◌, ◌==◌, OnOk, ℕ, List, map, i
 ghost use Rattle.ctw_ops.specs.declared.types.Label.{Label};
 ghost use Rattle.ctw_ops.specs.Tree.{Element as TreeElement};
 ghost use Rattle.std.specs.Option.{option_to_list};
-ghost use Rattle.ctw_module.specs.Sections.{Entry, TypeSection, ImportSection, FunctionSection, TableSection, MemorySection, GlobalSection, ExportSection, StartSection, ElementSection, CodeSection, DataSection, CustomSection, Parts, no_parts, with_section};
-ghost use Rattle.ctw_module.specs.Shown.{global_in};
-ghost use Rattle.ctw_module.specs.Slots.{runs_of, coded_behind, headed, headed_behind, element_functions};
+ghost use Rattle.ctw_form.specs.Sections.{Entry, TypeSection, ImportSection, FunctionSection, TableSection, MemorySection, GlobalSection, ExportSection, StartSection, ElementSection, CodeSection, DataSection, CustomSection, Parts, no_parts, with_section};
+ghost use Rattle.ctw_form.specs.Shown.{global_in};
+ghost use Rattle.ctw_form.specs.Slots.{runs_of, coded_behind, headed, headed_behind, element_functions};
 ghost use Rattle.ctw_module.specs.Gathers.{Gathers};
 
-use crate::entry::{ExportEntry, GlobalEntry, ImportEntry, TypeEntry};
-use crate::slots::{CodeSlot, ElementSlot, LocalRun};
-use crate::types::{Custom, Segment};
+use crate::types::Custom;
+use ctw_form::{
+    CodeSlot, ElementSlot, ExportEntry, GlobalEntry, ImportEntry, LocalRun, Segment, TypeEntry,
+};
 use ctw_ops::{Limits, MemType};
 use std::alloc::{AllocError, Global};
 
@@ -89,7 +90,8 @@ impl<'a> Found<'a> {
 
     /// Takes an import section.
     pub fn take_imports(&mut self, imports: Vec<ImportEntry<'a>>)
-        ensures { (p : Parts) → Gathers self.old p → Gathers self.new (with_section p (ImportSection imports.entry.items)) }
+        ensures { (p : Parts) → Gathers self.old p
+            → Gathers self.new (with_section p (ImportSection imports.entry.items)) }
     {
         self.place = place_behind(2, imports.len(), self.place);
         self.imports = imports;
@@ -105,7 +107,8 @@ impl<'a> Found<'a> {
 
     /// Takes a table section.
     pub fn take_table(&mut self, table: Option<Limits>)
-        ensures { (p : Parts) → Gathers self.old p → Gathers self.new (with_section p (TableSection (option_to_list table))) }
+        ensures { (p : Parts) → Gathers self.old p
+            → Gathers self.new (with_section p (TableSection (option_to_list table))) }
     {
         self.place = place_behind(4, usize::from(table.is_some()), self.place);
         self.table = table;
@@ -113,7 +116,8 @@ impl<'a> Found<'a> {
 
     /// Takes a memory section.
     pub fn take_memory(&mut self, memory: Option<MemType>)
-        ensures { (p : Parts) → Gathers self.old p → Gathers self.new (with_section p (MemorySection (option_to_list memory))) }
+        ensures { (p : Parts) → Gathers self.old p
+            → Gathers self.new (with_section p (MemorySection (option_to_list memory))) }
     {
         self.place = place_behind(5, usize::from(memory.is_some()), self.place);
         self.memory = memory;
@@ -121,7 +125,8 @@ impl<'a> Found<'a> {
 
     /// Takes a global section.
     pub fn take_globals(&mut self, globals: Vec<GlobalEntry>)
-        ensures { (p : Parts) → Gathers self.old p → Gathers self.new (with_section p (GlobalSection (map global_in globals.items))) }
+        ensures { (p : Parts) → Gathers self.old p
+            → Gathers self.new (with_section p (GlobalSection (map global_in globals.items))) }
     {
         self.place = place_behind(6, globals.len(), self.place);
         self.globals = globals;
@@ -129,7 +134,8 @@ impl<'a> Found<'a> {
 
     /// Takes an export section.
     pub fn take_exports(&mut self, exports: Vec<ExportEntry<'a>>)
-        ensures { (p : Parts) → Gathers self.old p → Gathers self.new (with_section p (ExportSection exports.entry.items)) }
+        ensures { (p : Parts) → Gathers self.old p
+            → Gathers self.new (with_section p (ExportSection exports.entry.items)) }
     {
         self.place = place_behind(7, exports.len(), self.place);
         self.exports = exports;
@@ -145,7 +151,8 @@ impl<'a> Found<'a> {
 
     /// Takes an element section.
     pub fn take_elements(&mut self, elements: Vec<ElementSlot>, functions: Vec<u32>)
-        ensures { (p : Parts) (l : List (TreeElement Label)) → map headed elements.items ≡ headed_behind 0 l → functions.items ≡ element_functions l
+        ensures { (p : Parts) (l : List (TreeElement Label)) → map headed elements.items ≡ headed_behind 0 l
+            → functions.items ≡ element_functions l
             → Gathers self.old p → Gathers self.new (with_section p (ElementSection l)) }
     {
         self.place = place_behind(9, elements.len(), self.place);
@@ -165,7 +172,8 @@ impl<'a> Found<'a> {
 
     /// Takes a data section.
     pub fn take_segments(&mut self, segments: Vec<Segment<'a>>)
-        ensures { (p : Parts) → Gathers self.old p → Gathers self.new (with_section p (DataSection segments.entry.items)) }
+        ensures { (p : Parts) → Gathers self.old p
+            → Gathers self.new (with_section p (DataSection segments.entry.items)) }
     {
         self.place = place_behind(11, segments.len(), self.place);
         self.segments = segments;
@@ -173,7 +181,8 @@ impl<'a> Found<'a> {
 
     /// Takes a custom section.
     pub fn take_custom(&mut self, name: &'a str, bytes: &'a [u8]) -> Result<(), AllocError>
-        ensures { OnOk result ((p : Parts) → Gathers self.old p → Gathers self.new (with_section p (CustomSection name.now bytes.now))) }
+        ensures { OnOk result ((p : Parts) → Gathers self.old p
+            → Gathers self.new (with_section p (CustomSection name.now bytes.now))) }
     {
         let place = self.place;
         self.customs.push(Custom { place, name, bytes })?;

@@ -2,23 +2,23 @@ ghost use Rattle.std.specs.Prelude.{◌≡◌, ◌<◌, List, Ok, IfOk};
 ghost use Rattle.ctw_leb.specs.Input.{Input};
 ghost use Rattle.ctw_leb.specs.Grammar.{state_after};
 ghost use Rattle.ctw_leb.specs.Reading.{items};
-ghost use Rattle.ctw_module.specs.declared.sections.Seen.{Seen};
-ghost use Rattle.ctw_module.specs.Sections.{Section, Parts, no_parts, with_section, nothing_seen, seen_after};
-ghost use Rattle.ctw_module.specs.Read.{insides_at, section_at};
+ghost use Rattle.ctw_form.specs.declared.sections.Seen.{Seen};
+ghost use Rattle.ctw_form.specs.Sections.{Section, Parts, no_parts, with_section, nothing_seen, seen_after};
+ghost use Rattle.ctw_form.specs.Read.{insides_at, section_at};
 ghost use Rattle.ctw_module.specs.Gathers.{Gathers, Fills, Takes};
 
 use crate::found::Found;
-use crate::items::{name, number, section_kind, window};
-use crate::lists::{
+use ctw_form::SectionKind;
+use ctw_form::items::{name, number, section_kind, window};
+use ctw_form::lists::{
     ListFault, codes, elements, exports, globals, imports, indexes, memories, segments, tables,
     types,
 };
-use crate::table::SectionKind;
 use ctw_leb::Cursor;
 use std::alloc::{AllocError, Global};
 
 /// Takes what a section brings. The bytes are all of its items.
-#[tactic(auto, unfolding(crate::specs::Read::insides_at))]
+#[tactic(auto, unfolding(ctw_form::specs::Read::insides_at))]
 fn fill<'a>(
     alloc: Global,
     ct: bool,
@@ -62,7 +62,8 @@ fn section<'a>(
     cursor: &mut Cursor<'a>,
     found: &mut Found<'a>,
 ) -> Result<(), ListFault>
-    ensures { (seen : Seen) (section : Section) (o : Input) (p : Parts) → section_at ct seen cursor.old ≡ Ok (section, o)
+    ensures { (seen : Seen) (section : Section) (o : Input) (p : Parts)
+        → section_at ct seen cursor.old ≡ Ok (section, o)
         → Gathers found.old p → Takes result cursor.new o found.new (with_section p section) }
 {
     let kind = section_kind(0, cursor)?;
@@ -73,7 +74,8 @@ fn section<'a>(
 /// What the sections from the cursor on bring, which spell sections.
 pub fn gather<'a>(alloc: Global, ct: bool, cursor: &mut Cursor<'a>) -> Result<Found<'a>, AllocError>
     requires { (sections : List Section) × (items (section_at ct) seen_after nothing_seen cursor.old ≡ Ok sections) }
-    ensures { IfOk result (λ found. (sections : List Section) → items (section_at ct) seen_after nothing_seen cursor.old ≡ Ok sections
+    ensures { IfOk result (λ found. (sections : List Section)
+        → items (section_at ct) seen_after nothing_seen cursor.old ≡ Ok sections
         → Gathers found (state_after with_section no_parts sections)) }
 {
     let mut found = Found::new(alloc);

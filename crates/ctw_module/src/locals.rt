@@ -1,10 +1,11 @@
 ghost use Rattle.std.specs.Prelude.{◌≡◌, ◌<◌, ◌≤◌, ◌-◌, List, length, take, drop, slice_get, Some, IsTrue};
 ghost use Rattle.ctw_ops.specs.Types.{byte_type, is_type_byte};
-ghost use Rattle.ctw_module.specs.Sections.{Group, locals_of};
-ghost use Rattle.ctw_module.specs.Slots.{runs_behind};
+ghost use Rattle.ctw_form.specs.Sections.{Group, locals_of};
+ghost use Rattle.ctw_form.specs.Slots.{runs_behind};
 
-use crate::slots::LocalRun;
-use ctw_ops::{FuncType, Label, ValType, Width};
+use ctw_flat::type_of_byte;
+use ctw_form::LocalRun;
+use ctw_ops::{FuncType, ValType};
 
 /// The same type, lent again.
 pub(crate) fn lend<'a>(ty: &FuncType<'a>) -> FuncType<'a>
@@ -22,13 +23,10 @@ pub(crate) fn param_type(byte: u8) -> ValType
     requires { IsTrue (is_type_byte byte) }
     ensures { byte_type byte ≡ Some result }
 {
-    let (width, label) = match byte {
-        0x7F => (Width::W32, Label::Public),
-        0x7E => (Width::W64, Label::Public),
-        0x7A => (Width::W32, Label::Secret),
-        _ => (Width::W64, Label::Secret),
-    };
-    ValType { width, label }
+    match type_of_byte(byte) {
+        Some(t) => t,
+        None => unreachable!(),
+    }
 }
 
 /// The items from `start` on, up to `end`.

@@ -1,23 +1,26 @@
-ghost use Rattle.std.specs.Prelude.{◌≡◌, ◌<◌, ◌≤◌, ◌^◌, ◌-◌, ◌↔◌, ℕ, length, map, slice_get, option_map, Some, Option, IfSome, IsNone, take};
+ghost use Rattle.std.specs.Prelude.{◌≡◌, ◌&&◌, not, if◌then◌else◌, ◌<◌, ◌≤◌, ◌^◌, ◌-◌, ◌↔◌, ℕ, length, map, slice_get, option_map, Some, Option, IfSome, IsNone, All, take};
 ghost use Rattle.ctw_ops.specs.declared.types.Label.{Label};
 ghost use Rattle.std.specs.Prelude.{IsTrue};
 ghost use Rattle.std.specs.List.{list_all};
 ghost use Rattle.ctw_ops.specs.Types.{byte_types, is_type_byte};
 ghost use Rattle.ctw_ops.specs.Limits.{most_params};
-ghost use Rattle.ctw_module.specs.Slots.{IsRunsOf, runs_of, element_functions};
+ghost use Rattle.ctw_ops.specs.WithinLimits.{IsOctet, IsWithinLimits};
+ghost use Rattle.ctw_form.specs.Slots.{runs_of, element_functions};
+ghost use Rattle.ctw_module.specs.Runs.{IsRunsOf};
 ghost use Rattle.ctw_ops.specs.Tree.{Function, function_entries, global_types, memory_among, table_among, type_named};
 ghost use Rattle.ctw_flat.specs.Spelled.{IsLimitedBody};
-ghost use Rattle.ctw_module.specs.Spelled.{Spells, export_of};
+ghost use Rattle.ctw_form.specs.Spelled.{Spells, export_of};
 ghost use Rattle.ctw_module.specs.Trees.{tree, parts, code_of};
-ghost use Rattle.ctw_module.specs.Lookup.{export_in, imported_count, function_named, locals_named, global_inits};
-ghost use Rattle.ctw_module.specs.Shown.{constant_of};
+ghost use Rattle.ctw_module.specs.Lookup.{export_in, imported_count, imported_of, function_named, locals_named, global_inits};
+ghost use Rattle.ctw_form.specs.Shown.{constant_of};
 ghost use Rattle.ctw_module.specs.Given.{import_given, HasTypeNamed};
 
-use crate::entry::{ExportEntry, ImportEntry, ImportKind, TypeEntry};
 use crate::locals::{count_of, lend, param_type, part, type_in};
-use crate::slots::{CodeSlot, ElementSlot, LocalRun};
-use crate::types::{Custom, Element, ExternKind, Global1, Import, Segment};
+use crate::types::{Custom, Element, ExternKind, Global1, Import};
 use ctw_flat::Body;
+use ctw_form::{
+    CodeSlot, ElementSlot, ExportEntry, ImportEntry, ImportKind, LocalRun, Segment, TypeEntry,
+};
 use ctw_ops::{ExternTag, FuncType, Limits, MemType, Profile, Trust, ValType};
 use indexmap::IndexMap;
 use std::marker::Model;
@@ -25,8 +28,8 @@ use std::marker::Model;
 /// A module as a view of its file's bytes, which spell it. It holds an index over them, by which each
 /// reader takes constant time, or logarithmic time for a local; no reader takes memory.
 ///
-/// Contracts see the bytes and the profile. The module that the bytes spell is `tree` of them, and `view_module` is the same
-/// under the profile. An index that a reader is given names a
+/// Contracts see the bytes and the profile. The module that the bytes spell is `tree` of them, and `view_module` is the
+/// same under the profile. An index that a reader is given names a
 /// thing that is there, where its answer has no None for others.
 #[derive(Drop)]
 pub struct Module<'a> {
@@ -37,11 +40,14 @@ pub struct Module<'a> {
     pub(crate) imports: Vec<ImportEntry<'a>>,
     pub(crate) functions: Vec<u32>,
     pub(crate) imported: usize,
+    pub(crate) imported_globals: usize,
     pub(crate) codes: Vec<CodeSlot<'a>>,
     pub(crate) runs: Vec<LocalRun>,
     pub(crate) globals: Vec<Global1>,
     pub(crate) memory: Option<MemType>,
+    pub(crate) defined_memory: Option<MemType>,
     pub(crate) table: Option<Limits>,
+    pub(crate) defined_table: Option<Limits>,
     pub(crate) exports: Vec<ExportEntry<'a>>,
     pub(crate) names: IndexMap<&'a str, (ExternTag, u32)>,
     pub(crate) start: Option<u32>,
@@ -64,11 +70,13 @@ impl<'a> Model for Module<'a> {
 }
 
 impl<'a> Module<'a> {
-    /// The file's bytes.
+    /// The file's bytes, which spell the module; it keeps the limits of every file.
     pub fn bytes(&self) -> &'a [u8]
         ensures bytes { result.now ≡ self.now.bytes }
+        ensures octets { All IsOctet self.now.bytes }
         ensures short { length self.now.bytes < 2 ^ 32 }
         ensures spelled { Spells self.now.bytes (tree self.now) }
+        ensures limits { IsWithinLimits (tree self.now) }
     {
         self.bytes
     }
@@ -150,6 +158,20 @@ impl<'a> Module<'a> {
         }
     }
 
+    /// How many things of a kind are imported.
+    pub fn imported_count(&self, kind: ExternTag) -> u32
+        ensures { result ≡ imported_of kind (tree self.now) }
+    {
+        match kind {
+            ExternTag::Func => self.imported as u32,
+            ExternTag::Table => only_imported(self.table.is_some(), self.defined_table.is_some()),
+            ExternTag::Memory => {
+                only_imported(self.memory.is_some(), self.defined_memory.is_some())
+            }
+            ExternTag::Global => self.imported_globals as u32,
+        }
+    }
+
     /// How many functions there are, imported ones first.
     pub fn func_count(&self) -> u32
         ensures { result ≡ length (function_entries (tree self.now)) }
@@ -203,11 +225,25 @@ impl<'a> Module<'a> {
         self.memory
     }
 
+    /// The memory that the module defines itself.
+    pub fn defined_memory(&self) -> Option<MemType>
+        ensures { result ≡ (tree self.now).memory }
+    {
+        self.defined_memory
+    }
+
     /// The table, imported or defined.
     pub fn table(&self) -> Option<Limits>
         ensures { result ≡ table_among (tree self.now).imports (tree self.now).table }
     {
         self.table
+    }
+
+    /// The table that the module defines itself.
+    pub fn defined_table(&self) -> Option<Limits>
+        ensures { result ≡ (tree self.now).table }
+    {
+        self.defined_table
     }
 
     /// The index of the start function, if there is one.
@@ -267,6 +303,13 @@ impl<'a> Module<'a> {
         type_in(runs, i - params.len() as u32)
     }
 
+    /// How many elements there are.
+    pub fn element_count(&self) -> u32
+        ensures { result ≡ length (tree self.now).elements }
+    {
+        self.elements.len() as u32
+    }
+
     /// An element; None exactly at or past their count.
     pub fn element(&self, i: u32) -> Option<Element<'_>>
         ensures { result ≡ slice_get (tree self.now).elements i }
@@ -284,6 +327,13 @@ impl<'a> Module<'a> {
         })
     }
 
+    /// How many data segments there are.
+    pub fn segment_count(&self) -> u32
+        ensures { result ≡ length (tree self.now).segments }
+    {
+        self.segments.len() as u32
+    }
+
     /// A data segment; None exactly at or past their count.
     pub fn segment(&self, i: u32) -> Option<Segment<'a>>
         ensures { result ≡ slice_get (tree self.now).segments i }
@@ -294,6 +344,13 @@ impl<'a> Module<'a> {
             offset: segment.offset,
             bytes: segment.bytes,
         })
+    }
+
+    /// How many custom sections there are.
+    pub fn custom_count(&self) -> u32
+        ensures { result ≡ length (tree self.now).customs }
+    {
+        self.customs.len() as u32
     }
 
     /// A custom section; None exactly at or past their count.
@@ -369,4 +426,11 @@ impl<'a> Module<'a> {
         }
         self.elements[elements - 1].functions
     }
+}
+
+/// How many are imported of a kind of which a module has at most one: whether there is one, and whether it is defined.
+fn only_imported(there: bool, defined: bool) -> u32
+    ensures { result ≡ (if there && not defined then 1 else 0) }
+{
+    u32::from(there && !defined)
 }

@@ -1,6 +1,6 @@
 ghost use Rattle.std.specs.Prelude.{◌≡◌, ◌<◌, ◌^◌, length, slice_get, Some};
 
-use crate::constant::ConstExpr;
+use ctw_form::ConstExpr;
 use ctw_ops::{FuncType, GlobalType, Limits, MemType};
 use std::marker::Model;
 
@@ -57,7 +57,7 @@ impl<'a> Model for Element<'a> {
     ghost use Rattle.std.specs.Prelude.{◌<◌, ◌^◌, length};
     ghost use Rattle.ctw_ops.specs.Tree.{Element as Segment};
     ghost use Rattle.ctw_ops.specs.declared.types.Label.{Label};
-    ghost use Rattle.ctw_module.specs.Shown.{constant_of};
+    ghost use Rattle.ctw_form.specs.Shown.{constant_of};
 
     ghost Value = { Segment Label };
 
@@ -81,27 +81,6 @@ impl<'a> Element<'a> {
     {
         self.functions[i as usize]
     }
-}
-
-/// Bytes that are put into a memory (W3C WebAssembly Core 1.0, section 2.5.8).
-#[derive(Drop)]
-pub struct Segment<'a> {
-    /// The index of the memory.
-    pub memory: u32,
-    /// Where they begin in it.
-    pub offset: ConstExpr,
-    /// The bytes.
-    pub bytes: &'a [u8],
-}
-
-impl<'a> Model for Segment<'a> {
-    ghost use Rattle.ctw_ops.specs.Tree.{Segment as Tree};
-    ghost use Rattle.ctw_ops.specs.declared.types.Label.{Label};
-    ghost use Rattle.ctw_module.specs.Shown.{constant_of};
-
-    ghost Value = { Tree Label };
-
-    ghost view = { λ s. record { memory = s.memory; offset = constant_of s.offset; bytes = s.bytes.now } };
 }
 
 /// A custom section (W3C WebAssembly Core 1.0, section 5.5.3).

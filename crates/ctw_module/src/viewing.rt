@@ -1,20 +1,20 @@
-ghost use Rattle.std.specs.Prelude.{◌≡◌, ◌<◌, ◌^◌, ◌++◌, ◌==◌, ℕ, List, map, length, option_map, IfOk, Option, Some, None};
+ghost use Rattle.std.specs.Prelude.{◌≡◌, ◌<◌, ◌^◌, ◌++◌, ◌==◌, ℕ, List, map, length, option_map, All, IfOk, Option, Some, None};
 ghost use Rattle.std.specs.Str.{bytes_eq};
 ghost use Rattle.indexmap.specs.IndexMap.{get_by};
 ghost use Rattle.ctw_ops.specs.declared.types.Label.{Label};
 ghost use Rattle.ctw_ops.specs.Tree.{Module as Tree, imported_functions, imported_globals, memory_among as memory_in, table_among as table_in};
-ghost use Rattle.ctw_module.specs.Spelled.{Spells};
+ghost use Rattle.ctw_ops.specs.WithinLimits.{IsOctet};
+ghost use Rattle.ctw_form.specs.Spelled.{Spells};
 ghost use Rattle.ctw_module.specs.Trees.{Lent, tree, parts, view_of};
-ghost use Rattle.ctw_module.specs.Shown.{constant_of, global_in};
+ghost use Rattle.ctw_form.specs.Shown.{constant_of, global_in};
 ghost use Rattle.ctw_module.specs.Lookup.{export_in};
 ghost use Rattle.ctw_module.specs.Gathers.{Gathers};
 
-use crate::constant::ConstExpr;
-use crate::entry::{ExportEntry, GlobalEntry, ImportEntry, ImportKind};
 use crate::found::Found;
 use crate::gather::gather;
 use crate::module::Module;
 use crate::types::Global1;
+use ctw_form::{ConstExpr, ExportEntry, GlobalEntry, ImportEntry, ImportKind};
 use ctw_leb::Cursor;
 use ctw_ops::{ExternTag, Limits, MemType, Profile};
 use indexmap::IndexMap;
@@ -44,7 +44,8 @@ fn all_globals(
     imports: &[ImportEntry],
     defined: &[GlobalEntry],
 ) -> Result<Vec<Global1>, AllocError>
-    ensures types { IfOk result (λ all. map (λ g. g.ty) all.items ≡ imported_globals imports.now ++ map (λ g. g.ty) defined.now) }
+    ensures types { IfOk result (λ all.
+        map (λ g. g.ty) all.items ≡ imported_globals imports.now ++ map (λ g. g.ty) defined.now) }
     ensures inits { IfOk result (λ all. map (λ g. option_map constant_of g.init) all.items
         ≡ map (λ type. None) (imported_globals imports.now) ++ map (λ g. Some (constant_of g.init)) defined.now) }
 {
@@ -93,7 +94,8 @@ fn names_of<'a>(
     alloc: Global,
     exports: &[ExportEntry<'a>],
 ) -> Result<IndexMap<&'a str, (ExternTag, u32)>, AllocError>
-    ensures { IfOk result (λ names. (name : List ℕ) → get_by (λ key. bytes_eq name key.now) names ≡ export_in name exports.now) }
+    ensures { IfOk result (λ names. (name : List ℕ)
+        → get_by (λ key. bytes_eq name key.now) names ≡ export_in name exports.now) }
 {
     let mut names = IndexMap::new(alloc);
     'exports: for export in exports {
@@ -111,6 +113,7 @@ fn index<'a>(
     ct: bool,
     found: Found<'a>,
 ) -> Result<Module<'a>, AllocError>
+    requires octets { All IsOctet bytes.now }
     requires short { length bytes.now < 2 ^ 32 }
     requires spelled { Spells bytes.now (tree (view_of bytes.now)) }
     requires ct { ct ≡ (tree (view_of bytes.now)).ct }
@@ -125,10 +128,13 @@ fn index<'a>(
         bytes,
         ct,
         imported: functions.len() - found.uses.len(),
+        imported_globals: globals.len() - found.globals.len(),
         functions,
         globals,
         memory: memory_among(&found.imports, found.memory),
+        defined_memory: found.memory,
         table: table_among(&found.imports, found.table),
+        defined_table: found.table,
         names,
         types: found.types,
         imports: found.imports,

@@ -78,7 +78,7 @@ same_trust_refl : (t : Trust) → same_trust t t ≡ true
 same_trust_refl Untrusted = refl
 same_trust_refl Trusted = refl
 
-same_type_refl : (t : ValueType Label) → same_type t t ≡ true
+pub same_type_refl : (t : ValueType Label) → same_type t t ≡ true
 same_type_refl t = ap₂ ◌&&◌ (same_width_refl t.width) (same_label_refl t.tag)
 
 same_types_refl : (ts : List (ValueType Label)) → same_types ts ts ≡ true
@@ -97,6 +97,13 @@ same_label_when l m e = subst (λ m. same_label l m ≡ true) e (same_label_refl
 
 pub same_type_when : (t u : ValueType Label) → t ≡ u → same_type t u ≡ true
 same_type_when t u e = subst (λ (u : ValueType Label). same_type t u ≡ true) e (same_type_refl t)
+
+pub same_type_differs : (t u : ValueType Label) → (t ≡ u → ⊥) → same_type t u ≡ false
+same_type_differs t u n = go (same_type t u) refl
+  where
+    go : (b : Bool) → same_type t u ≡ b → b ≡ false
+    go true e = absurd (n (same_type_is t u e))
+    go false e = refl
 
 pub same_function_type_refl : (f : FunctionType Label) → same_function_type f f ≡ true
 same_function_type_refl f = ap₂ ◌&&◌ (same_trust_refl f.trust) (ap₂ ◌&&◌ (same_types_refl f.params) (same_result_refl f.result))

@@ -1,4 +1,5 @@
--- Instructions as a tree, and as the list of their opcodes (W3C WebAssembly Core 1.0, section 2.4, and the instructions of the CT-Wasm paper).
+-- Instructions as a tree, and as the list of their opcodes (W3C WebAssembly Core 1.0, section 2.4,
+-- and the instructions of the CT-Wasm paper).
 use Rattle.std.specs.Prelude.{ℕ, Bool, List, [], ◌∷◌, Option}
 use Rattle.ctw_ops.specs.ValueType.{ValueType}
 use Rattle.ctw_ops.specs.declared.types.Width.{Width}

@@ -1,4 +1,5 @@
--- A body cut after some of its opcodes: these are kept, and each block that is open behind them is closed after an `unreachable`.
+-- A body cut after some of its opcodes: these are kept, and each block that is open behind them is
+-- closed after an `unreachable`.
 use Rattle.std.specs.Prelude.{ℕ, zero, suc, Bool, true, false, List, [], ◌∷◌, ◌++◌, Option, Some, None, take}
 use Rattle.ctw_ops.specs.ValueType.{ValueType}
 use Rattle.ctw_ops.specs.Code.{Unreachable, Code, Stop, Then, Block, Loop, If, IfElse, OfBlock, OfLoop, OfIf, ByEnd, ByElse, Op, Plain, Opens, Closes}
@@ -77,8 +78,12 @@ abbrev pub cut : {S : Type 0} → Code S → ℕ → Code S
 cut code zero = unreachable
 cut Stop (suc k) = Stop
 cut (Then leaf rest) (suc k) = Then leaf (cut rest k)
-cut (Block t body rest) (suc k) = where_cut (behind body k) (Block t (cut body k) unreachable) (λ j. Block t body (cut rest j))
-cut (Loop t body rest) (suc k) = where_cut (behind body k) (Loop t (cut body k) unreachable) (λ j. Loop t body (cut rest j))
+cut (Block t body rest) (suc k) =
+    where_cut (behind body k) (Block t (cut body k) unreachable) (λ j. Block t body (cut rest j))
+cut (Loop t body rest) (suc k) =
+    where_cut (behind body k) (Loop t (cut body k) unreachable) (λ j. Loop t body (cut rest j))
 cut (If t arm rest) (suc k) = where_cut (behind arm k) (cut_if t (cut arm k)) (λ j. If t arm (cut rest j))
 cut (IfElse t arm other rest) (suc k) =
-    where_cut (behind arm k) (cut_if t (cut arm k)) (λ j. where_cut (behind other j) (IfElse t arm (cut other j) unreachable) (λ i. IfElse t arm other (cut rest i)))
+    where_cut (behind arm k) (cut_if t (cut arm k))
+    (λ j.
+    where_cut (behind other j) (IfElse t arm (cut other j) unreachable) (λ i. IfElse t arm other (cut rest i)))

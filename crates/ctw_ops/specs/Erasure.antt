@@ -56,7 +56,8 @@ abbrev pub erase_import : List (TypeEntry Label) → Import Label → Import Lab
 erase_import entries i = record { module_name = i.module_name; name = i.name; kind = erase_extern entries i.kind }
 
 abbrev pub erase_function : List (TypeEntry Label) → Function Label → Function Label
-erase_function entries f = record { type = base_of entries f.type; locals = map erase_value_type f.locals; body = erase_code entries f.body }
+erase_function entries f =
+    record { type = base_of entries f.type; locals = map erase_value_type f.locals; body = erase_code entries f.body }
 
 abbrev pub erase_constant : Constant Label → Constant Label
 erase_constant (Number type bits) = Number (erase_value_type type) bits

@@ -17,3 +17,6 @@ pub mod CutTyping
 pub mod Equal
 pub mod Erasure
 pub mod IndirectCalls
+pub mod ExternType
+pub mod WithinLimits
+pub mod FirstFault

@@ -17,14 +17,16 @@ spread [] = []
 spread (s ∷ outer) = onto s.code (Closes s.closer ∷ spread outer)
 
 -- a block in front of the innermost sequence
-abbrev pub with_block : {S : Type 0} → Shape → Option (ValueType S) → Code S → List (Segment S) → Option (List (Segment S))
+abbrev pub with_block : {S : Type 0} → Shape → Option (ValueType S) → Code S → List (Segment S)
+    → Option (List (Segment S))
 with_block shape t body [] = None
 with_block OfBlock t body (s ∷ outer) = Some (segment (Block t body s.code) s.closer ∷ outer)
 with_block OfLoop t body (s ∷ outer) = Some (segment (Loop t body s.code) s.closer ∷ outer)
 with_block OfIf t body (s ∷ outer) = Some (segment (If t body s.code) s.closer ∷ outer)
 
 -- the same of an `if` whose `else` is written; an `end` has to close its other arm
-abbrev pub with_arms : {S : Type 0} → Shape → Option (ValueType S) → Code S → List (Segment S) → Option (List (Segment S))
+abbrev pub with_arms : {S : Type 0} → Shape → Option (ValueType S) → Code S → List (Segment S)
+    → Option (List (Segment S))
 with_arms {S} OfIf t arm (other ∷ s ∷ outer) = closed other.closer
   where
     closed : Closer → Option (List (Segment S))
@@ -33,7 +35,8 @@ with_arms {S} OfIf t arm (other ∷ s ∷ outer) = closed other.closer
 with_arms shape t arm segments = None
 
 -- the same by what closes the block's first sequence
-abbrev pub with_opener : {S : Type 0} → Shape → Option (ValueType S) → Segment S → List (Segment S) → Option (List (Segment S))
+abbrev pub with_opener : {S : Type 0} → Shape → Option (ValueType S) → Segment S → List (Segment S)
+    → Option (List (Segment S))
 with_opener {S} shape t first outer = closed first.closer
   where
     closed : Closer → Option (List (Segment S))

@@ -19,7 +19,8 @@ IsEntry entry = entry.base ≡ None
 -- an entry that names one that is no variant, and erases like it
 abbrev pub IsVariant : List (TypeEntry Label) → TypeEntry Label → Type 0
 IsVariant types entry =
-    (index : ℕ) × (base : TypeEntry Label) × (entry.base ≡ Some index) × (slice_get types index ≡ Some base) × IsEntry base
+    (index : ℕ) × (base : TypeEntry Label) × (entry.base ≡ Some index) × (slice_get types index ≡ Some base)
+    × IsEntry base
     × EraseAlike entry.type base.type
 
 -- variants stand after all other entries
@@ -40,7 +41,8 @@ AreLimits limits = IfSome limits.max (λ max. limits.min ≤ max)
 
 -- a memory's sizes (section 3.2.4)
 abbrev pub IsMemory : MemoryType Label → Type 0
-IsMemory t = AreLimits t.limits × (t.limits.min ≤ most_memory_pages) × IfSome t.limits.max (λ max. max ≤ most_memory_pages)
+IsMemory t =
+    AreLimits t.limits × (t.limits.min ≤ most_memory_pages) × IfSome t.limits.max (λ max. max ≤ most_memory_pages)
 
 abbrev pub IsImported : Module Label → Extern Label → Type 0
 IsImported m (ImportedFunction type) = Names m.types type
@@ -72,10 +74,14 @@ IsExported m GlobalTag index = Names (global_types m) index
 
 -- the start function has no parameter and no result (section 3.4.9)
 abbrev pub IsStart : Module Label → ℕ → Type 0
-IsStart m function = (type : ℕ) × (slice_get (function_entries m) function ≡ Some type) × ((type_named m type).params ≡ []) × ((type_named m type).result ≡ None)
+IsStart m function =
+    (type : ℕ) × (slice_get (function_entries m) function ≡ Some type) × ((type_named m type).params ≡ [])
+    × ((type_named m type).result ≡ None)
 
 abbrev pub IsElement : Module Label → Element Label → Type 0
-IsElement m e = (e.table ≡ 0) × IsSome (table_among m.imports m.table) × IsOffset m e.offset × All (Names (function_entries m)) e.functions
+IsElement m e =
+    (e.table ≡ 0) × IsSome (table_among m.imports m.table) × IsOffset m e.offset
+    × All (Names (function_entries m)) e.functions
 
 abbrev pub IsSegment : Module Label → Segment Label → Type 0
 IsSegment m s = (s.memory ≡ 0) × IsSome (memory_among m.imports m.memory) × IsOffset m s.offset
@@ -101,8 +107,8 @@ abbrev pub IsFitting : Constant Label → Type 0
 IsFitting (Number type bits) = FitsWidth type.width bits
 IsFitting (ValueOf global) = Unit {0}
 
--- There is at most one table and at most one memory, imported or defined, numbers fit their types, and a plain module has no
--- label, trust, variant, classify or declassify.
+-- There is at most one table and at most one memory, imported or defined, numbers fit their types, and a plain module
+-- has no label, trust, variant, classify or declassify.
 pub record IsFormed (m : Module Label) : Type 0 where
   pub tables : length (all_tables m) ≤ 1
   pub memories : length (all_memories m) ≤ 1

@@ -11,5 +11,6 @@ pub fn signatures_cover_the_operations()
 
 /// The opcodes of code under a function on tags and an action on leaves are those that its opcodes become.
 pub fn opcodes_under_an_action<S, T>()
-    ensures { (f : S → T) (act : Leaf S → List (Leaf T)) (code : Code S) → opcodes (code_to f act code) ≡ flat_map (op_to f act) (opcodes code) }
+    ensures { (f : S → T) (act : Leaf S → List (Leaf T)) (code : Code S)
+        → opcodes (code_to f act code) ≡ flat_map (op_to f act) (opcodes code) }
 {}

@@ -11,15 +11,15 @@ use Rattle.ctw_leb.proofs.Loops.{LeftFrom, LeftItems, left_items, left_items_nex
 use Rattle.ctw_flat.specs.Bodies.{opened_by, own_body}
 use Rattle.ctw_flat.proofs.Bodies.{allowed_steps}
 use Rattle.ctw_flat.proofs.Balance.{open_after, closed_body, open_body}
-use Rattle.ctw_module.specs.declared.fault.FormKind.TheVariants.{Unbalanced, CountMismatch}
-use Rattle.ctw_module.specs.declared.fault.FormFault.{FormFault}
-use Rattle.ctw_module.specs.Sections.{Group, Entry, locals_of}
-use Rattle.ctw_module.specs.Spelled.{Count, count_after, all_after}
-use Rattle.ctw_module.specs.Read.{fault, number_at, sized_at, form_step_at, form_body_at, group_at, groups_at, owed_at, code_entry_at, codes_at}
-use Rattle.ctw_module.proofs.CodeForms.{IsFormStep, exact_form_step, form_step_filled, whole_form_steps, form_steps_are}
-use Rattle.ctw_module.specs.Pieces.{window_at}
-use Rattle.ctw_module.proofs.SectionForms.{form_step_sum}
-use Rattle.ctw_module.proofs.SizedWindows.{sized_bad}
+use Rattle.ctw_form.specs.declared.fault.FormKind.TheVariants.{Unbalanced, CountMismatch}
+use Rattle.ctw_form.specs.declared.fault.FormFault.{FormFault}
+use Rattle.ctw_form.specs.Sections.{Group, Entry, locals_of}
+use Rattle.ctw_form.specs.Spelled.{Count, count_after, all_after}
+use Rattle.ctw_form.specs.Read.{fault, number_at, sized_at, form_step_at, form_body_at, group_at, groups_at, owed_at, code_entry_at, codes_at}
+use Rattle.ctw_form.proofs.CodeForms.{IsFormStep, exact_form_step, form_step_filled, whole_form_steps, form_steps_are}
+use Rattle.ctw_form.specs.Pieces.{window_at}
+use Rattle.ctw_form.proofs.SectionForms.{form_step_sum}
+use Rattle.ctw_form.proofs.SizedWindows.{sized_bad}
 use Rattle.ctw_read.specs.declared.fault.ReadFault.{ReadFault}
 use Rattle.ctw_read.specs.declared.fault.ReadFault.TheVariants.{Bad, NoMemory}
 use Rattle.ctw_read.specs.Calls.{FailsWith, in_sized}

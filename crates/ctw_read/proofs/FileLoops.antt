@@ -5,14 +5,14 @@ use Rattle.ctw_leb.specs.Input.{Input}
 use Rattle.ctw_leb.specs.Grammar.{state_after}
 use Rattle.ctw_leb.specs.Reading.{Reader, chain, ends, items}
 use Rattle.ctw_leb.proofs.Loops.{LeftItems, left_items, left_items_next, left_items_fault, left_items_end}
-use Rattle.ctw_module.specs.declared.fault.FormKind.TheVariants.{SizeMismatch}
-use Rattle.ctw_module.specs.declared.fault.FormFault.{FormFault}
-use Rattle.ctw_module.specs.declared.table.SectionKind.TheVariants as kind
-use Rattle.ctw_module.specs.declared.sections.Seen.{Seen}
-use Rattle.ctw_module.specs.Sections.{Section, CustomSection, nothing_seen, seen_after}
-use Rattle.ctw_module.specs.Spelled.{IsSection}
-use Rattle.ctw_module.specs.Read.{fault, name_at, only_at, insides_at, section_at}
-use Rattle.ctw_module.proofs.SectionForms.{exact_section, section_filled}
+use Rattle.ctw_form.specs.declared.fault.FormKind.TheVariants.{SizeMismatch}
+use Rattle.ctw_form.specs.declared.fault.FormFault.{FormFault}
+use Rattle.ctw_form.specs.declared.table.SectionKind.TheVariants as kind
+use Rattle.ctw_form.specs.declared.sections.Seen.{Seen}
+use Rattle.ctw_form.specs.Sections.{Section, CustomSection, nothing_seen, seen_after}
+use Rattle.ctw_form.specs.Spelled.{IsSection}
+use Rattle.ctw_form.specs.Read.{fault, name_at, only_at, insides_at, section_at}
+use Rattle.ctw_form.proofs.SectionForms.{exact_section, section_filled}
 use Rattle.ctw_read.specs.declared.fault.ReadFault.{ReadFault}
 use Rattle.ctw_read.specs.declared.fault.ReadFault.TheVariants.{Bad, NoMemory}
 use Rattle.ctw_read.specs.Calls.{FailsWith}

@@ -8,10 +8,10 @@ use Rattle.ctw_leb.specs.declared.fault.LebFault.{LebFault}
 use Rattle.ctw_leb.specs.Input.{Input}
 use Rattle.ctw_leb.specs.Readers.{bytes_at}
 use Rattle.ctw_leb.proofs.Combinators.{bytes_ok, bytes_err}
-use Rattle.ctw_module.specs.declared.fault.FormKind.{FormKind}
-use Rattle.ctw_module.specs.declared.fault.FormKind.TheVariants.{Truncated, BadMagic}
-use Rattle.ctw_module.specs.Spelled.{magic}
-use Rattle.ctw_module.specs.Read.{fault, version_of, header_at}
+use Rattle.ctw_form.specs.declared.fault.FormKind.{FormKind}
+use Rattle.ctw_form.specs.declared.fault.FormKind.TheVariants.{Truncated, BadMagic}
+use Rattle.ctw_form.specs.Spelled.{magic}
+use Rattle.ctw_form.specs.Read.{fault, version_of, header_at}
 
 -- the eight bytes, cut in two
 record Cut (i o : Input) (t : List ℕ) : Type 0 where

@@ -6,11 +6,11 @@ use Rattle.ctw_ops.specs.Tree.{Import}
 use Rattle.ctw_leb.specs.Input.{Input}
 use Rattle.ctw_leb.specs.Grammar.{state_after}
 use Rattle.ctw_leb.specs.Reading.{Reader}
-use Rattle.ctw_module.specs.declared.fault.FormFault.{FormFault}
-use Rattle.ctw_module.specs.declared.table.Held.{Held}
-use Rattle.ctw_module.specs.Sections.{held_after, held_by}
-use Rattle.ctw_module.specs.Spelled.{room}
-use Rattle.ctw_module.specs.Read.{upto_at, vector_upto_at}
+use Rattle.ctw_form.specs.declared.fault.FormFault.{FormFault}
+use Rattle.ctw_form.specs.declared.table.Held.{Held}
+use Rattle.ctw_form.specs.Sections.{held_after, held_by}
+use Rattle.ctw_form.specs.Spelled.{room}
+use Rattle.ctw_form.specs.Read.{upto_at, vector_upto_at}
 
 -- where one may stand and some does, it is the only one
 pub only_one : {A : Type 0} (r : Reader A FormFault) (imported : Bool) (what : What) (i mid o : Input) (n : ℕ) (a : A)

@@ -3,9 +3,9 @@ use Rattle.std.proofs.Common.{◌≡◌, List, ℕ, Ok, refl, sym, ◌∙◌}
 use Rattle.ctw_ops.specs.declared.types.Label.{Label}
 use Rattle.ctw_ops.specs.Tree.{Module}
 use Rattle.ctw_leb.proofs.Exact.{err_ok}
-use Rattle.ctw_module.specs.Spelled.{File, Spells, module_in}
-use Rattle.ctw_module.specs.Read.{fault, file_at, module_at}
-use Rattle.ctw_module.proofs.FileForms.{module_sound, spelled_file}
+use Rattle.ctw_form.specs.Spelled.{File, Spells, module_in}
+use Rattle.ctw_form.specs.Read.{fault, file_at, module_at}
+use Rattle.ctw_form.proofs.FileForms.{module_sound, spelled_file}
 use Rattle.ctw_read.specs.declared.fault.ReadFault.{ReadFault}
 use Rattle.ctw_read.specs.declared.fault.ReadFault.TheVariants.{Bad, NoMemory}
 use Rattle.ctw_read.specs.Calls.{FailsWith}

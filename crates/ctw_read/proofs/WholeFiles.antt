@@ -4,13 +4,13 @@ use Rattle.std.proofs.lemmas.Bool.{eq-eqb, ne_eqb}
 use Rattle.ctw_ops.specs.declared.fault.What.TheVariants.{Bytes}
 use Rattle.ctw_leb.specs.Input.{Input}
 use Rattle.ctw_leb.specs.Grammar.{state_after}
-use Rattle.ctw_module.specs.declared.fault.FormKind.TheVariants.{TooMany, CountMismatch}
-use Rattle.ctw_module.specs.declared.fault.FormFault.{FormFault}
-use Rattle.ctw_module.specs.declared.sections.Seen.{Seen}
+use Rattle.ctw_form.specs.declared.fault.FormKind.TheVariants.{TooMany, CountMismatch}
+use Rattle.ctw_form.specs.declared.fault.FormFault.{FormFault}
+use Rattle.ctw_form.specs.declared.sections.Seen.{Seen}
 use Rattle.ctw_ops.specs.Limits.{most_plain_bytes}
-use Rattle.ctw_module.specs.Sections.{Section, nothing_seen, seen_after}
-use Rattle.ctw_module.specs.Spelled.{File, file_of}
-use Rattle.ctw_module.specs.Read.{fault, header_at, is_small, sections_at, file_at}
+use Rattle.ctw_form.specs.Sections.{Section, nothing_seen, seen_after}
+use Rattle.ctw_form.specs.Spelled.{File, file_of}
+use Rattle.ctw_form.specs.Read.{fault, header_at, is_small, sections_at, file_at}
 use Rattle.ctw_read.specs.declared.fault.ReadFault.{ReadFault}
 use Rattle.ctw_read.specs.declared.fault.ReadFault.TheVariants.{Bad, NoMemory}
 use Rattle.ctw_read.specs.Calls.{FailsWith}

@@ -1,16 +1,16 @@
 ghost use Rattle.std.specs.Prelude.{◌≡◌, ◌+◌, ◌≤◌, length, IfOk};
 ghost use Rattle.ctw_leb.specs.Calls.{Finds};
 ghost use Rattle.ctw_ops.specs.Limits.{most_locals_of_all};
-ghost use Rattle.ctw_module.specs.Sections.{locals_of};
-ghost use Rattle.ctw_module.specs.Spelled.{all_after};
-ghost use Rattle.ctw_module.specs.Read.{label_place as place_of_label, label_at, form_step_at, form_body_at, groups_at, entry_insides_at, code_entry_at, codes_at};
+ghost use Rattle.ctw_form.specs.Sections.{locals_of};
+ghost use Rattle.ctw_form.specs.Spelled.{all_after};
+ghost use Rattle.ctw_form.specs.Read.{label_place as place_of_label, label_at, form_step_at, form_body_at, groups_at, entry_insides_at, code_entry_at, codes_at};
 ghost use Rattle.ctw_read.specs.Calls.{in_sized, Reads, ReadsFront, Steps, Tells};
 
 use crate::fault::ReadFault;
 use ctw_flat::{BuildFault, Nesting};
+use ctw_form::items::{group, inside, number, of_code, window};
+use ctw_form::{FormFault, FormKind};
 use ctw_leb::Cursor;
-use ctw_module::items::{group, inside, number, of_code, window};
-use ctw_module::{FormFault, FormKind};
 use std::alloc::Global;
 
 /// The place of the byte that stands for a label in the opcode at the cursor.
@@ -18,7 +18,7 @@ fn label_place(cursor: &Cursor) -> Option<u32>
     ensures { result ≡ place_of_label cursor.now.at cursor.now.rest }
 {
     let place = cursor.place();
-    let _left = cursor.left();
+    let _left = cursor.left(); // tells the prover that places behind this one are below 2^32 too
     match cursor.rest() {
         [0xE0..=0xE4, ..] => Some(place),
         [0x02..=0x04, 0x79..=0x7A, ..] => Some(place + 1),
@@ -45,7 +45,7 @@ fn refused_label(ct: bool, nesting: &Nesting, cursor: &Cursor) -> Option<u32>
 }
 
 /// The next instruction of a body.
-#[tactic(auto, unfolding(ctw_module::specs::Read::form_step_at))]
+#[tactic(auto, unfolding(ctw_form::specs::Read::form_step_at))]
 fn step(ct: bool, nesting: &mut Nesting, cursor: &mut Cursor) -> Result<(), ReadFault>
     ensures { Steps result nesting.old nesting.new cursor.new (form_step_at ct nesting.old cursor.old) }
 {
@@ -80,10 +80,11 @@ fn body(nesting: &mut Nesting, ct: bool, cursor: &mut Cursor) -> Result<(), Read
 }
 
 /// The locals of a function behind functions with so many, and how many they are with these.
-#[tactic(auto, unfolding(ctw_module::specs::Read::groups_at, ctw_ops::specs::Limits::most_locals, ctw_ops::specs::Limits::most_locals_of_all))]
+#[tactic(auto, unfolding(ctw_form::specs::Read::groups_at, ctw_ops::specs::Limits::most_locals, ctw_ops::specs::Limits::most_locals_of_all))]
 fn groups(ct: bool, all: u32, cursor: &mut Cursor) -> Result<u32, FormFault>
     requires { all ≤ most_locals_of_all }
-    ensures locals { Tells (λ n groups. n ≡ all + length (locals_of groups)) result cursor.new (groups_at ct all cursor.old) }
+    ensures locals { Tells (λ n groups.
+        n ≡ all + length (locals_of groups)) result cursor.new (groups_at ct all cursor.old) }
     ensures within { IfOk result (λ n. n ≤ most_locals_of_all) }
 {
     let count = number(cursor)?;
@@ -98,7 +99,7 @@ fn groups(ct: bool, all: u32, cursor: &mut Cursor) -> Result<u32, FormFault>
 }
 
 /// The locals and the instructions of a function, all of the bytes.
-#[tactic(auto, unfolding(ctw_module::specs::Read::entry_insides_at))]
+#[tactic(auto, unfolding(ctw_form::specs::Read::entry_insides_at))]
 fn entry_insides(
     nesting: &mut Nesting,
     ct: bool,
@@ -138,7 +139,7 @@ pub fn inside_fault(fault: ReadFault) -> ReadFault
 }
 
 /// The entries of a code section, one for each function that has no code yet.
-#[tactic(auto, unfolding(ctw_module::specs::Read::codes_at), using(crate::proofs::CodeLoops::owed_short, crate::proofs::CodeLoops::owed_same, crate::proofs::CodeLoops::owed_other))]
+#[tactic(auto, unfolding(ctw_form::specs::Read::codes_at), using(crate::proofs::CodeLoops::owed_short, crate::proofs::CodeLoops::owed_same, crate::proofs::CodeLoops::owed_other))]
 pub fn codes(alloc: Global, ct: bool, owed: u32, cursor: &mut Cursor) -> Result<(), ReadFault>
     ensures { ReadsFront (λ u entries. Unit {0}) result cursor.new (codes_at ct owed cursor.old) }
 {

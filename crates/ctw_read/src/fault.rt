@@ -2,8 +2,8 @@ ghost use Rattle.std.specs.Prelude.{◌≡◌};
 ghost use Rattle.ctw_read.specs.declared.fault.ReadFault.TheVariants.{Bad, NoMemory};
 
 use ctw_flat::BuildFault;
-use ctw_module::items::of_code;
-use ctw_module::{FormFault, FormKind};
+use ctw_form::items::of_code;
+use ctw_form::{FormFault, FormKind};
 use std::alloc::{AllocError, AllocFailed};
 use thiserror::Error;
 

@@ -1,12 +1,12 @@
 ghost use Rattle.std.specs.Prelude.{◌≡◌, ◌<◌, ◌^◌, length};
 ghost use Rattle.ctw_leb.specs.Calls.{Finds};
-ghost use Rattle.ctw_module.specs.Read.{is_small as small, version_of as version_in, header_at, file_at};
+ghost use Rattle.ctw_form.specs.Read.{is_small as small, version_of as version_in, header_at, file_at};
 ghost use Rattle.ctw_read.specs.Calls.{Reads};
 
 use crate::fault::ReadFault;
 use crate::sections::sections;
+use ctw_form::{FormFault, FormKind};
 use ctw_leb::Cursor;
-use ctw_module::{FormFault, FormKind};
 use ctw_ops::What;
 use std::alloc::Global;
 

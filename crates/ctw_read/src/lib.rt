@@ -4,9 +4,9 @@
 ghost use Rattle.std.specs.Prelude.{◌≡◌, ◌<◌, ◌^◌, length, IfOk, IsOkUnless};
 ghost use Rattle.ctw_ops.specs.declared.types.Label.{Label};
 ghost use Rattle.ctw_ops.specs.Tree.{Module as Tree};
-ghost use Rattle.ctw_module.specs.Spelled.{Spells, module_in};
+ghost use Rattle.ctw_form.specs.Spelled.{Spells, module_in};
 ghost use Rattle.ctw_module.specs.Trees.{tree, view_of};
-ghost use Rattle.ctw_module.specs.Read.{file_at};
+ghost use Rattle.ctw_form.specs.Read.{file_at};
 ghost use Rattle.ctw_read.specs.Calls.{Reads};
 
 mod code;

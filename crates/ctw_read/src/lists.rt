@@ -1,17 +1,18 @@
 ghost use Rattle.std.specs.Prelude.{◌≡◌, ℕ, List, length};
 ghost use Rattle.ctw_leb.specs.Calls.{Skips};
-ghost use Rattle.ctw_module.specs.Sections.{held_by, none_held as nothing};
-ghost use Rattle.ctw_module.specs.Spelled.{room};
-ghost use Rattle.ctw_module.specs.Read.{number_at, vector_at, vector_upto_at, type_entry_at, imports_at, table_at, memory_at, global_at, export_at, element_at, segment_at};
+ghost use Rattle.ctw_form.specs.Sections.{held_by, none_held as nothing};
+ghost use Rattle.ctw_form.specs.Spelled.{room};
+ghost use Rattle.ctw_form.specs.Read.{number_at, vector_at, vector_upto_at, type_entry_at, imports_at, table_at, memory_at, global_at, export_at, element_at, segment_at};
 ghost use Rattle.ctw_ops.specs.declared.fault.What.TheVariants as what;
 ghost use Rattle.ctw_read.specs.Calls.{Tells};
 
-use ctw_leb::Cursor;
-use ctw_module::items::{
+use ctw_form::items::{
     export, global, held_with, import, memory, number, segment, segment_head, table, type_entry,
     upto,
 };
-use ctw_module::{ConstExpr, FormFault, Held};
+use ctw_form::{FormFault, Held};
+use ctw_leb::Cursor;
+use ctw_module::ConstExpr;
 use ctw_ops::What;
 
 /// The entries of a type section.
@@ -26,7 +27,7 @@ pub fn types(ct: bool, cursor: &mut Cursor) -> Result<(), FormFault>
 }
 
 /// The imports of an import section, and what they have.
-#[tactic(auto, unfolding(ctw_module::specs::Read::imports_at))]
+#[tactic(auto, unfolding(ctw_form::specs::Read::imports_at))]
 pub fn imports(ct: bool, cursor: &mut Cursor) -> Result<Held, FormFault>
     ensures { Tells (λ held imports. held ≡ held_by nothing imports) result cursor.new (imports_at ct cursor.old) }
 {
@@ -105,7 +106,7 @@ pub fn exports(cursor: &mut Cursor) -> Result<(), FormFault>
 }
 
 /// What an element segment puts into a table.
-#[tactic(auto, using(ctw_module::proofs::Heads::element_headed))]
+#[tactic(auto, using(ctw_form::proofs::Heads::element_headed))]
 fn element(ct: bool, cursor: &mut Cursor) -> Result<(), FormFault>
     ensures { Skips result cursor.new (element_at ct cursor.old) }
 {

@@ -1,9 +1,9 @@
 ghost use Rattle.std.specs.Prelude.{◌≡◌, ◌+◌, ◌<◌, ◌^◌, [], length, Ok, Err, nat_le, if◌then◌else◌};
 ghost use Rattle.ctw_leb.specs.Grammar.{state_after};
 ghost use Rattle.ctw_leb.specs.Reading.{items as to_the_end};
-ghost use Rattle.ctw_module.specs.declared.fault.FormKind.TheVariants.{SizeMismatch};
-ghost use Rattle.ctw_module.specs.Sections.{nothing_seen as nothing, seen_after};
-ghost use Rattle.ctw_module.specs.Read.{fault, insides_at, contents_at, section_at};
+ghost use Rattle.ctw_form.specs.declared.fault.FormKind.TheVariants.{SizeMismatch};
+ghost use Rattle.ctw_form.specs.Sections.{nothing_seen as nothing, seen_after};
+ghost use Rattle.ctw_form.specs.Read.{fault, insides_at, contents_at, section_at};
 ghost use Rattle.ctw_read.specs.Calls.{Fills, Reads, ReadsFront};
 
 use crate::code::{codes, inside_fault};
@@ -11,9 +11,9 @@ use crate::fault::ReadFault;
 use crate::lists::{
     elements, exports, globals, imports, indexes, memories, segments, tables, types,
 };
+use ctw_form::items::{name, number, section_kind, window};
+use ctw_form::{FormFault, FormKind, Held, SectionKind, Seen};
 use ctw_leb::Cursor;
-use ctw_module::items::{name, number, section_kind, window};
-use ctw_module::{FormFault, FormKind, Held, SectionKind, Seen};
 use std::alloc::Global;
 
 /// Whether no byte is left behind the items of a section.
@@ -49,7 +49,7 @@ fn behind(seen: Seen, last: u8) -> Seen
 }
 
 /// The items of a section, and what was seen behind it.
-#[tactic(auto, unfolding(ctw_module::specs::Read::insides_at))]
+#[tactic(auto, unfolding(ctw_form::specs::Read::insides_at))]
 fn items(
     alloc: Global,
     ct: bool,
@@ -147,7 +147,8 @@ fn contents(
     kind: SectionKind,
     cursor: &mut Cursor,
 ) -> Result<Seen, ReadFault>
-    ensures { ReadsFront (λ behind section. behind ≡ seen_after seen section) result cursor.new (contents_at ct seen kind cursor.old) }
+    ensures { ReadsFront (λ behind section.
+        behind ≡ seen_after seen section) result cursor.new (contents_at ct seen kind cursor.old) }
 {
     let mut window = window(cursor)?;
     match insides(alloc, ct, seen, kind, &mut window) {
@@ -157,9 +158,10 @@ fn contents(
 }
 
 /// A section behind others.
-#[tactic(auto, unfolding(ctw_module::specs::Read::section_at, ctw_module::specs::Pieces::section_kind_at))]
+#[tactic(auto, unfolding(ctw_form::specs::Read::section_at, ctw_form::specs::Pieces::section_kind_at))]
 fn section(alloc: Global, ct: bool, seen: Seen, cursor: &mut Cursor) -> Result<Seen, ReadFault>
-    ensures { ReadsFront (λ behind section. behind ≡ seen_after seen section) result cursor.new (section_at ct seen cursor.old) }
+    ensures { ReadsFront (λ behind section.
+        behind ≡ seen_after seen section) result cursor.new (section_at ct seen cursor.old) }
 {
     let kind = section_kind(seen.last, cursor)?;
     contents(alloc, ct, seen, kind, cursor)
@@ -167,7 +169,9 @@ fn section(alloc: Global, ct: bool, seen: Seen, cursor: &mut Cursor) -> Result<S
 
 /// The sections of a file, and what was seen behind the last one.
 pub fn sections(alloc: Global, ct: bool, cursor: &mut Cursor) -> Result<Seen, ReadFault>
-    ensures { Reads (λ seen sections. seen ≡ state_after seen_after nothing sections) result (to_the_end (section_at ct) seen_after nothing cursor.old) }
+    ensures { Reads (λ seen sections.
+        seen
+        ≡ state_after seen_after nothing sections) result (to_the_end (section_at ct) seen_after nothing cursor.old) }
 {
     let mut seen = Seen {
         last: 0,

@@ -19,7 +19,7 @@ use Rattle.ctw_ops.proofs.EqualLaws.{both}
 use Rattle.ctw_semantics.proofs.Memories.{length-bytes_of_number, length-written_at}
 use Rattle.ctw_ops.proofs.Lists.{all_get, map_get, map_set_same}
 
-abbrev IsByte : ℕ → Type 0
+abbrev pub IsByte : ℕ → Type 0
 IsByte byte = byte < 256
 
 -- ---- loads
@@ -66,7 +66,7 @@ unfolding most_memory_pages
 pages_below n le = omega (arith, le)
 
 -- whether a memory fits goes by its length, where its bytes are bytes
-same_size_fits : (m : Memory) (bytes : List ℕ) → length bytes ≡ length m.bytes → All IsByte bytes → MemoryFits m → MemoryFits (record m { bytes = bytes })
+pub same_size_fits : (m : Memory) (bytes : List ℕ) → length bytes ≡ length m.bytes → All IsByte bytes → MemoryFits m → MemoryFits (record m { bytes = bytes })
 same_size_fits m bytes e b f =
     let sizes = subst (λ k. (k ≡ page_size * (k / page_size)) × (m.type.limits.min ≤ k / page_size) × (k / page_size ≤ most_pages_of m.type) × (k / page_size ≤ most_memory_pages)) (sym e) (f.whole, f.least, f.greatest, f.most) in
     record { whole = sizes.0; least = sizes.1; greatest = sizes.2; most = sizes.3; bytes = b }
@@ -79,7 +79,7 @@ bytes_of_number_fit zero x k d less = absurd (omega (arith, less))
 bytes_of_number_fit (suc n) x zero d less = mod-lt x (omega arith)
 bytes_of_number_fit (suc n) x (suc k) d less = bytes_of_number_fit n (x / 256) k d (omega (arith, less))
 
-written_bytes_fit : (at : ℕ) (new old : List ℕ) → All IsByte new → All IsByte old → All IsByte (written_at at new old)
+pub written_bytes_fit : (at : ℕ) (new old : List ℕ) → All IsByte new → All IsByte old → All IsByte (written_at at new old)
 unfolding written_at
 written_bytes_fit at new old n o =
     All-append IsByte (take at old) (new ++ drop (at + length new) old) (All-take IsByte at old o) (All-append IsByte new (drop (at + length new) old) n (All-drop IsByte (at + length new) old o))

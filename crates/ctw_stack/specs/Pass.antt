@@ -52,12 +52,19 @@ module _ {S : Type 0} (same : S → S → Bool) where
   -- what one opcode does to the open blocks, innermost first
   abbrev pub flat : Context S → Op S → List (Level S) → Option (List (Level S))
   flat C op [] = None
-  flat C (Plain leaf) (v ∷ outer) = and_then (step same (within C (v ∷ outer)) leaf v.block.operands) (λ o. Some (now_with v o ∷ outer))
+  flat C (Plain leaf) (v ∷ outer) =
+      and_then (step same (within C (v ∷ outer)) leaf v.block.operands) (λ o. Some (now_with v o ∷ outer))
   flat C (Opens OfBlock t) (v ∷ outer) = Some (level false false t ∷ v ∷ outer)
   flat C (Opens OfLoop t) (v ∷ outer) = Some (level false true t ∷ v ∷ outer)
-  flat C (Opens OfIf t) (v ∷ outer) = and_then (expect same (i32 C) v.block.operands) (λ o. Some (level true false t ∷ now_with v o ∷ outer))
-  flat C (Closes ByElse) (v ∷ outer) = when v.arm (and_then (ends_with v.block.yields v.block.operands) (λ o. Some (level false v.block.loops v.block.yields ∷ outer)))
-  flat C (Closes ByEnd) (v ∷ outer) = when (not v.arm || is_none v.block.yields) (and_then (ends_with v.block.yields v.block.operands) (λ o. Some (given v.block.yields outer)))
+  flat C (Opens OfIf t) (v ∷ outer) =
+      and_then (expect same (i32 C) v.block.operands) (λ o. Some (level true false t ∷ now_with v o ∷ outer))
+  flat C (Closes ByElse) (v ∷ outer) =
+      when v.arm
+      (and_then (ends_with v.block.yields v.block.operands)
+      (λ o. Some (level false v.block.loops v.block.yields ∷ outer)))
+  flat C (Closes ByEnd) (v ∷ outer) =
+      when (not v.arm || is_none v.block.yields)
+      (and_then (ends_with v.block.yields v.block.operands) (λ o. Some (given v.block.yields outer)))
 
   -- opcode by opcode
   abbrev pub run : Context S → List (Op S) → List (Level S) → Option (List (Level S))

@@ -95,7 +95,9 @@ module _ {S : Type 0} (same : S → S → Bool) where
 
   -- takes two values of one width and the tag, and puts one of them on
   abbrev pub chosen : S → Operands S → Option (Operands S)
-  chosen l o = and_then (pop o) (λ p. and_then (pop p.rest) (λ q. and_then (joined l p.slot q.slot) (λ slot. Some (push slot q.rest))))
+  chosen l o =
+      and_then (pop o)
+      (λ p. and_then (pop p.rest) (λ q. and_then (joined l p.slot q.slot) (λ slot. Some (push slot q.rest))))
 
   -- types and results by the test of tags
   abbrev pub same_type : ValueType S → ValueType S → Bool
@@ -127,10 +129,15 @@ module _ {S : Type 0} (same : S → S → Bool) where
   step C Nop o = Some o
   step C (Br k) o = and_then (slice_get C.labels k) (λ t. left_by (optional t) o)
   step C (BrIf k) o = and_then (slice_get C.labels k) (λ t. moved (optional t ++ i32 C ∷ []) (optional t) o)
-  step C (BrTable ks k) o = and_then (slice_get C.labels k) (λ t. when (are_labels C t ks) (left_by (optional t ++ i32 C ∷ []) o))
+  step C (BrTable ks k) o =
+      and_then (slice_get C.labels k) (λ t. when (are_labels C t ks) (left_by (optional t ++ i32 C ∷ []) o))
   step C Return o = left_by (optional C.result) o
-  step C (Call f) o = and_then (slice_get C.functions f) (λ g. when (may_call C.trust g.trust) (moved g.params (optional g.result) o))
-  step C (CallIndirect y) o = when C.table (and_then (slice_get C.types y) (λ g. when (may_call C.trust g.trust) (moved (g.params ++ i32 C ∷ []) (optional g.result) o)))
+  step C (Call f) o =
+      and_then (slice_get C.functions f) (λ g. when (may_call C.trust g.trust) (moved g.params (optional g.result) o))
+  step C (CallIndirect y) o =
+      when C.table
+      (and_then (slice_get C.types y)
+      (λ g. when (may_call C.trust g.trust) (moved (g.params ++ i32 C ∷ []) (optional g.result) o)))
   step C Drop o = dropped o
   step C (Select l) o = and_then (expect (value_type W32 l) o) (chosen l)
   step C (LocalGet x) o = and_then (slice_get C.locals x) (λ t. moved [] (t ∷ []) o)
@@ -139,13 +146,18 @@ module _ {S : Type 0} (same : S → S → Bool) where
   step C (GlobalGet x) o = and_then (slice_get C.globals x) (λ g. moved [] (g.value ∷ []) o)
   step C (GlobalSet x) o = and_then (slice_get C.globals x) (λ g. when g.mutable (moved (g.value ∷ []) [] o))
   step C (Load w l bytes signed align offset) o =
-      when (is_load w bytes signed) (when (is_tag l C.memory) (when (nat_le (2 ^ align) bytes) (moved (i32 C ∷ []) (value_type w l ∷ []) o)))
+      when (is_load w bytes signed)
+      (when (is_tag l C.memory) (when (nat_le (2 ^ align) bytes) (moved (i32 C ∷ []) (value_type w l ∷ []) o)))
   step C (Store w l bytes align offset) o =
-      when (is_store w bytes) (when (is_tag l C.memory) (when (nat_le (2 ^ align) bytes) (moved (i32 C ∷ value_type w l ∷ []) [] o)))
+      when (is_store w bytes)
+      (when (is_tag l C.memory) (when (nat_le (2 ^ align) bytes) (moved (i32 C ∷ value_type w l ∷ []) [] o)))
   step C MemorySize o = and_then C.memory (λ l. moved [] (i32 C ∷ []) o)
   step C MemoryGrow o = and_then C.memory (λ l. moved (i32 C ∷ []) (i32 C ∷ []) o)
   step C (Const w l bits) o = when (nat_lt bits (2 ^ bit_width w)) (moved [] (value_type w l ∷ []) o)
   step C (Numeric op l) o =
-      and_then (num_sig_of op) (λ sig. when (not (leaks op C.profile) || same l C.public) (moved (operands sig l) (value_type sig.result l ∷ []) o))
+      and_then (num_sig_of op)
+      (λ sig.
+      when (not (leaks op C.profile) || same l C.public) (moved (operands sig l) (value_type sig.result l ∷ []) o))
   step C (Classify w) o = moved (value_type w C.public ∷ []) (value_type w C.secret ∷ []) o
-  step C (Declassify w) o = when (is_trusted C.trust) (moved (value_type w C.secret ∷ []) (value_type w C.public ∷ []) o)
+  step C (Declassify w) o =
+      when (is_trusted C.trust) (moved (value_type w C.secret ∷ []) (value_type w C.public ∷ []) o)

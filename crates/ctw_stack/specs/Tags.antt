@@ -31,11 +31,17 @@ module _ {S T : Type 0} (f : S → T) where
 
   -- the same comes of putting `f tag` for each tag before a call and behind it
   pub record TagLaw : Type 0 where
-    pub push : (slot : Slot S) (blocks : List (Open S)) → after_push (slot_to slot) (opens_to blocks) ≡ opens_to (after_push slot blocks)
+    pub push : (slot : Slot S) (blocks : List (Open S))
+        → after_push (slot_to slot) (opens_to blocks) ≡ opens_to (after_push slot blocks)
     pub pop : (blocks : List (Open S)) → after_pop (opens_to blocks) ≡ option_map taken_to (after_pop blocks)
-    pub enter : (loops : Bool) (yields : Option (ValueType S)) (blocks : List (Open S)) → after_enter loops (option_map (type_to f) yields) (opens_to blocks) ≡ opens_to (after_enter loops yields blocks)
+    pub enter : (loops : Bool) (yields : Option (ValueType S)) (blocks : List (Open S))
+        → after_enter loops (option_map (type_to f) yields) (opens_to blocks)
+        ≡ opens_to (after_enter loops yields blocks)
     pub kill : (blocks : List (Open S)) → after_kill (opens_to blocks) ≡ opens_to (after_kill blocks)
-    pub target : (depth : ℕ) (blocks : List (Open S)) → target_of depth (opens_to blocks) ≡ option_map (option_map (type_to f)) (target_of depth blocks)
-    pub innermost : (blocks : List (Open S)) → innermost_of (opens_to blocks) ≡ option_map (λ block. (block.0, option_map (type_to f) block.1)) (innermost_of blocks)
+    pub target : (depth : ℕ) (blocks : List (Open S))
+        → target_of depth (opens_to blocks) ≡ option_map (option_map (type_to f)) (target_of depth blocks)
+    pub innermost : (blocks : List (Open S))
+        → innermost_of (opens_to blocks)
+        ≡ option_map (λ block. (block.0, option_map (type_to f) block.1)) (innermost_of blocks)
     pub leave : (blocks : List (Open S)) → after_leave (opens_to blocks) ≡ opens_to (after_leave blocks)
     pub count : (blocks : List (Open S)) → count_of_innermost (opens_to blocks) ≡ count_of_innermost blocks

@@ -39,7 +39,8 @@ impl<S: Copy + Drop> Model for Stack<S> {
 }
 
 impl<S: Copy + Drop> Stack<S> {
-    /// A stack without an open block. Where tags are numbers, putting for each the label that a list has there commutes with each call.
+    /// A stack without an open block. Where tags are numbers,
+    /// putting for each the label that a list has there commutes with each call.
     pub fn new(alloc: Global) -> Stack<S>
         ensures empty { result ≡ [] }
         ensures tags { (labels : List Label) → TagLaw (λ n. slice_index_or labels n Public) }
@@ -69,11 +70,13 @@ impl<S: Copy + Drop> Stack<S> {
         Ok(())
     }
 
-    /// Takes the last slot of the innermost block. Where that block has none, the answer is `Unknown` in dead code, and else an underflow, which leaves the stack as it was.
+    /// Takes the last slot of the innermost block. Where that block has none, the answer is `Unknown` in dead code,
+    /// and else an underflow, which leaves the stack as it was.
     #[inline(always)]
     pub fn pop(&mut self) -> Result<Slot<S>, Underflow>
         requires { 0 < length self.old }
-        ensures { MatchResult result (λ slot. after_pop self.old ≡ Some (record { slot = slot; blocks = self.new })) (λ _. (after_pop self.old ≡ None) × (self.new ≡ self.old)) }
+        ensures { MatchResult result (λ slot. after_pop self.old ≡ Some (record { slot = slot; blocks = self.new }))
+            (λ _. (after_pop self.old ≡ None) × (self.new ≡ self.old)) }
     {
         let last = self.blocks.len() - 1;
         let block = self.blocks[last];
@@ -89,9 +92,11 @@ impl<S: Copy + Drop> Stack<S> {
         }
     }
 
-    /// Opens a block without slots, a loop or not, with the type of its result. An error, for want of memory, leaves the stack as it was.
+    /// Opens a block without slots, a loop or not, with the type of its result. An error, for want of memory,
+    /// leaves the stack as it was.
     pub fn enter(&mut self, loops: bool, yields: Option<(Width, S)>) -> Result<(), AllocError>
-        ensures { MatchResult result (λ _. self.new ≡ after_enter loops (option_map type_of yields) self.old) (λ _. self.new ≡ self.old) }
+        ensures { MatchResult result (λ _. self.new ≡ after_enter loops (option_map type_of yields) self.old)
+            (λ _. self.new ≡ self.old) }
     {
         let height = self.slots.len();
         self.blocks.push(Block {
@@ -115,7 +120,8 @@ impl<S: Copy + Drop> Stack<S> {
         self.blocks[last] = block;
     }
 
-    /// What a branch to the block carries that is so many blocks outwards from the innermost, which is 0: nothing to a loop. None exactly where no more blocks are open.
+    /// What a branch to the block carries that is so many blocks outwards from the innermost, which is 0:
+    /// nothing to a loop. None exactly where no more blocks are open.
     pub fn target(&self, depth: u32) -> Option<Option<(Width, S)>>
         ensures { option_map (option_map type_of) result ≡ target_of depth self.now }
     {
@@ -132,7 +138,8 @@ impl<S: Copy + Drop> Stack<S> {
         }
     }
 
-    /// Whether the innermost block is a loop, and the type of the result that it has at its end. None exactly where no block is open.
+    /// Whether the innermost block is a loop, and the type of the result that it has at its end.
+    /// None exactly where no block is open.
     pub fn innermost(&self) -> Option<(bool, Option<(Width, S)>)>
         ensures block { option_map (λ b. (b.0, option_map type_of b.1)) result ≡ innermost_of self.now }
         ensures open { IsSome result ↔ (0 < length self.now) }

@@ -101,8 +101,8 @@ fn byte_at(pages: &[Page], at: usize) -> u8
 
 // ---- writing
 
-/// Writes so many bytes of a number from a place on. The one or two pages that they lie in are made before; the error is
-/// want of memory for them.
+/// Writes so many bytes of a number from a place on. The one or two pages that they lie in are made before; the error
+/// is want of memory for them.
 #[inline(always)]
 pub fn write(
     alloc: Global,

@@ -2,7 +2,6 @@ pub mod OnStack
 pub mod Named
 pub mod Scope
 pub mod RowLaws
-pub mod Targets
 pub mod LeafLaws
 pub mod LevelLaws
 pub mod Prefixes

@@ -12,7 +12,7 @@ use Rattle.ctw_ops.specs.Bodies.{context_of}
 use Rattle.ctw_ops.specs.Valid.{Names}
 use Rattle.ctw_module.specs.Trees.{tree, view_module}
 use Rattle.ctw_module.specs.Lookup.{imported_count, function_named, local_types, locals_named}
-use Rattle.ctw_module.proofs.Params.{slice_get_right}
+use Rattle.ctw_form.proofs.Params.{slice_get_right}
 use Rattle.ctw_module.proofs.LocalTypes.{locals_are}
 use Rattle.ctw_module.proofs.Functions.{named_low}
 use Rattle.ctw_valid.specs.declared.around.Around.{Around}

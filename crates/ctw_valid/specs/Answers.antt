@@ -37,13 +37,16 @@ IsSecretLeak profile op = (n : ℕ) × (op ≡ Plain (Numeric n Secret)) × (lea
 
 -- each typing of the body cut before its opcode `at` has a secret there at a place of the operands, the last one at 0
 abbrev pub HasSecretAt : Context Label → Code Label → ℕ → ℕ → Type 0
-HasSecretAt C code at place = (types : List (ValueType Label)) → Reaches C code at [] types → HasTagAt Secret place types
+HasSecretAt C code at place =
+    (types : List (ValueType Label)) → Reaches C code at [] types → HasTagAt Secret place types
 
--- the body's opcode `at` breaks a rule: a secret operation leaks, or there is a secret at the place where the rule wants none
+-- the body's opcode `at` breaks a rule: a secret operation leaks,
+-- or there is a secret at the place where the rule wants none
 abbrev pub BreaksRule : Context Label → Code Label → ℕ → SecretRule → Type 0
 BreaksRule C code at rule =
     (op : Op Label) × (slice_get (opcodes code) at ≡ Some op)
-    × (((rule ≡ Divide) × IsSecretLeak C.profile op) ⊎ ((place : ℕ) × (guarded op ≡ guards rule place) × HasSecretAt C code at place))
+    × (((rule ≡ Divide) × IsSecretLeak C.profile op)
+    ⊎ ((place : ℕ) × (guarded op ≡ guards rule place) × HasSecretAt C code at place))
 
 -- the body's opcode `at` fails a test
 abbrev pub Fails : (Leaf Label → Bool) → Code Label → ℕ → Type 0
@@ -51,7 +54,9 @@ Fails test code at = (leaf : Leaf Label) × (slice_get (opcodes code) at ≡ Som
 
 -- among the blocks that are open before it the body's opcode `at` names what isn't there
 abbrev pub NamesNothing : Context Label → Code Label → ℕ → Type 0
-NamesNothing C code at = (levels : List (Level Label)) × (run same_label C (take at (opcodes code)) (outermost C) ≡ Some levels) × Fails (is_there (within C levels)) code at
+NamesNothing C code at =
+    (levels : List (Level Label)) × (run same_label C (take at (opcodes code)) (outermost C) ≡ Some levels)
+    × Fails (is_there (within C levels)) code at
 
 -- all places where a secret isn't allowed
 abbrev pub secret_rules : List SecretRule

@@ -1,4 +1,5 @@
--- What an opcode that closes a block does to the open blocks, where it is known whether the innermost one is a then arm.
+-- What an opcode that closes a block does to the open blocks,
+-- where it is known whether the innermost one is a then arm.
 use Rattle.std.specs.Prelude.{Bool, not, ◌||◌, List, [], ◌∷◌, Option, Some, None, is_none}
 use Rattle.ctw_ops.specs.declared.types.Label.{Label}
 use Rattle.ctw_ops.specs.Types.{ValueType}
@@ -17,9 +18,12 @@ given_to t (b ∷ outer) = with_operands b (pushes (optional t) b.operands) ∷ 
 -- `end`
 abbrev pub ended : Bool → List (Open Label) → Option (List (Open Label))
 ended arm [] = None
-ended arm (b ∷ outer) = when (not arm || is_none b.yields) (and_then (ends_with same_label b.yields b.operands) (λ o. Some (given_to b.yields outer)))
+ended arm (b ∷ outer) =
+    when (not arm || is_none b.yields)
+    (and_then (ends_with same_label b.yields b.operands) (λ o. Some (given_to b.yields outer)))
 
 -- `else`
 abbrev pub parted : Bool → List (Open Label) → Option (List (Open Label))
 parted arm [] = None
-parted arm (b ∷ outer) = when arm (and_then (ends_with same_label b.yields b.operands) (λ o. Some (opened b.loops b.yields ∷ outer)))
+parted arm (b ∷ outer) =
+    when arm (and_then (ends_with same_label b.yields b.operands) (λ o. Some (opened b.loops b.yields ∷ outer)))

@@ -1,8 +1,9 @@
--- Why a body doesn't have its function's type: the first opcode that the pass refuses, and the first kind that applies to it.
+-- Why a body doesn't have its function's type: the first opcode that the pass refuses,
+-- and the first kind that applies to it.
 use Rattle.std.specs.Prelude.{◌^◌, ℕ, suc, Bool, true, false, not, ◌&&◌, nat_le, List, [], ◌∷◌, Option, Some, None, is_some, slice_get, if◌then◌else◌}
 use Rattle.std.specs.List.{list_all}
 use Rattle.ctw_ops.specs.declared.types.Label.{Label}
-use Rattle.ctw_ops.specs.declared.types.Label.TheVariants.{Public, Secret}
+use Rattle.ctw_ops.specs.declared.types.Label.TheVariants.{Secret}
 use Rattle.ctw_ops.specs.declared.fault.SecretRule.{SecretRule}
 use Rattle.ctw_ops.specs.declared.fault.SecretRule.TheVariants.{Condition, TableIndex, CallIndex, Address, Divide, GrowSize}
 use Rattle.ctw_ops.specs.Types.{FunctionType, VariableType}
@@ -129,7 +130,8 @@ slots_of (v ∷ outer) = v.block.operands.slots
 -- ---- a body
 
 -- go on behind an opcode that isn't refused
-abbrev pub unless_refused : BodyFault → (List (Level Label) → Option BodyFault) → Option (List (Level Label)) → Option BodyFault
+abbrev pub unless_refused : BodyFault → (List (Level Label) → Option BodyFault) → Option (List (Level Label))
+    → Option BodyFault
 unless_refused why go None = Some why
 unless_refused why go (Some levels) = go levels
 
@@ -137,7 +139,8 @@ unless_refused why go (Some levels) = go levels
 abbrev pub fault_from : Context Label → ℕ → List (Op Label) → List (Level Label) → Option BodyFault
 fault_from C at [] levels = None
 fault_from C at (op ∷ ops) levels =
-    unless_refused (kind_of (within C levels) op at (slots_of levels)) (fault_from C (suc at) ops) (flat same_label C op levels)
+    unless_refused (kind_of (within C levels) op at (slots_of levels)) (fault_from C (suc at) ops)
+    (flat same_label C op levels)
 
 -- the first fault of a function's body in its module; None where it has its function's type
 unfoldable pub body_fault : Module Label → Function Label → Option BodyFault

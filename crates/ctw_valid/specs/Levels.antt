@@ -34,10 +34,13 @@ pub record IsNext (old new : Levels) : Type 0 where
   pub slots : slot_count new.stack ≤ slot_count old.stack + 1
 
 -- one opcode was passed, or its fault was answered
-abbrev pub Passes : Context Label → Op Label → ℕ → Result (Unit {0}) BodyFault → List (Level Label) → List (Level Label) → Type 0
-Passes C op at result old new = Follows result (flat same_label C op old) new (kind_of (within C old) op at (slots_of old))
+abbrev pub Passes : Context Label → Op Label → ℕ → Result (Unit {0}) BodyFault → List (Level Label) → List (Level Label)
+    → Type 0
+Passes C op at result old new =
+    Follows result (flat same_label C op old) new (kind_of (within C old) op at (slots_of old))
 
 -- the same of an opcode that opens and closes no block; nothing is said of others
-abbrev pub PassesLeaf : Context Label → Op Label → ℕ → Result (Unit {0}) BodyFault → List (Level Label) → List (Level Label) → Type 0
+abbrev pub PassesLeaf : Context Label → Op Label → ℕ → Result (Unit {0}) BodyFault → List (Level Label)
+    → List (Level Label) → Type 0
 PassesLeaf C (Plain leaf) at result old new = Passes C (Plain leaf) at result old new
 PassesLeaf C op at result old new = Unit {0}

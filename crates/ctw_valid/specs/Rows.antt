@@ -1,4 +1,5 @@
--- Rows of the typing's table with all names looked up: what is taken off the operands and put on, and where no secret may stand.
+-- Rows of the typing's table with all names looked up: what is taken off the operands and put on,
+-- and where no secret may stand.
 use Rattle.std.specs.Prelude.{◌≡◌, ℕ, Bool, true, false, List, ◌∷◌, Option, Some, None, Result, Ok, Err}
 use Rattle.ctw_ops.specs.declared.types.Label.{Label}
 use Rattle.ctw_ops.specs.declared.types.Label.TheVariants.{Public}
@@ -42,7 +43,8 @@ put_or_dead false gives o = pushes (optional gives) o
 
 -- the operands below the number are taken, and others are put on
 abbrev pub move_below : Move → Operands Label → Option (Operands Label)
-move_below m o = when m.fits (and_then (expects same_label (types_in m.first) o) (λ rest. Some (put_or_dead m.ends m.gives rest)))
+move_below m o =
+    when m.fits (and_then (expects same_label (types_in m.first) o) (λ rest. Some (put_or_dead m.ends m.gives rest)))
 
 abbrev pub move_all : Move → Operands Label → Option (Operands Label)
 move_all m o = and_then (expects same_label (top_types m.index m.last) o) (move_below m)
@@ -82,6 +84,8 @@ LooksUpOp C (Plain leaf) at result = LooksUp C leaf at result
 LooksUpOp C op at result = Unit {0}
 
 -- a leaf was stepped over at the innermost block, or its fault was answered
-abbrev pub OnLeaf : Context Label → Op Label → ℕ → Result (Unit {0}) BodyFault → List (Open Label) → List (Open Label) → Type 0
-OnLeaf C (Plain leaf) at result old new = Follows result (on_innermost (step same_label C leaf) old) new (kind_of C (Plain leaf) at (own_slots old))
+abbrev pub OnLeaf : Context Label → Op Label → ℕ → Result (Unit {0}) BodyFault → List (Open Label) → List (Open Label)
+    → Type 0
+OnLeaf C (Plain leaf) at result old new =
+    Follows result (on_innermost (step same_label C leaf) old) new (kind_of C (Plain leaf) at (own_slots old))
 OnLeaf C op at result old new = Unit {0}

@@ -1,6 +1,5 @@
 -- The labels of a branch table.
-use Rattle.std.specs.Prelude.{◌≡◌, ℕ, Bool, ◌&&◌, List, map, Option, Some, None, if◌then◌else◌}
-use Rattle.std.specs.Borrow.{Bor}
+use Rattle.std.specs.Prelude.{ℕ, Bool, ◌&&◌, List, map, Option, Some, None, if◌then◌else◌}
 use Rattle.std.specs.List.{list_all}
 use Rattle.ctw_ops.specs.declared.types.Label.{Label}
 use Rattle.ctw_ops.specs.Types.{ValueType}
@@ -15,9 +14,5 @@ labels_in blocks = map label_of blocks
 
 -- None where a target isn't there; else whether all have the type, as those before had
 abbrev pub fit : Context Label → Option (ValueType Label) → Bool → List ℕ → Option Bool
-fit C t before targets = if list_all (names C.labels) targets then Some (before && are_labels same_label C t targets) else None
-
--- a number with the bytes behind it
-abbrev pub IsFirst : Option (ℕ × Bor (List ℕ)) → ℕ → List ℕ → Type 0
-IsFirst None n after = ⊥
-IsFirst (Some x) n after = (x.0 ≡ n) × (x.1.now ≡ after)
+fit C t before targets =
+    if list_all (names C.labels) targets then Some (before && are_labels same_label C t targets) else None

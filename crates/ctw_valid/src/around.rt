@@ -36,7 +36,8 @@ impl<'a> Around<'a> {
         requires typed { AreTyped (tree whole.now) }
         requires defined { imported_count (tree whole.now) ≤ f }
         requires there { f < length (function_entries (tree whole.now)) }
-        ensures { (function : Function Label) → function_named (tree whole.now) f ≡ Some function → scope_of_body result ≡ context_of (view_module whole.now) function }
+        ensures { (function : Function Label) → function_named (tree whole.now) f ≡ Some function
+            → scope_of_body result ≡ context_of (view_module whole.now) function }
     {
         let ty = whole.func_type(whole.type_of_func(f));
         Around {

@@ -1,4 +1,4 @@
-ghost use Rattle.std.specs.Prelude.{◌≡◌, ◌≤◌, ◌<◌, ◌≢◌, length, Some, OnOk, IfErr, IsOkUnless};
+ghost use Rattle.std.specs.Prelude.{[], ◌≡◌, ◌≤◌, ◌<◌, ◌≢◌, length, Some, OnOk, IfErr, IsOkUnless};
 ghost use Rattle.ctw_ops.specs.declared.types.Label.{Label};
 ghost use Rattle.ctw_ops.specs.Code.{Code};
 ghost use Rattle.ctw_ops.specs.Tree.{Function, function_entries};
@@ -20,6 +20,7 @@ use ctw_flat::{Body, Walk};
 use ctw_module::Module;
 use ctw_stack::Stack;
 use std::alloc::Global;
+use std::marker::Model;
 
 /// Passes all opcodes of a body. Bytes that spell no body are refused.
 pub fn check_code(levels: &mut Levels, around: &Around, body: &Body) -> Result<(), BodyFault>
@@ -50,25 +51,44 @@ pub fn check_body(alloc: Global, m: &Module, f: u32) -> Result<(), BodyFault>
     requires typed { AreTyped (tree m.now) }
     requires defined { imported_count (tree m.now) ≤ f }
     requires there { f < length (function_entries (tree m.now)) }
-    ensures sound { (function : Function Label) → function_named (tree m.now) f ≡ Some function → OnOk result (HasItsType (view_module m.now) function) }
-    ensures complete { (function : Function Label) → function_named (tree m.now) f ≡ Some function → HasItsType (view_module m.now) function → IsOkUnless result NoMemory }
-    ensures fault { (function : Function Label) → function_named (tree m.now) f ≡ Some function → IfErr result (λ e. e ≢ NoMemory → body_fault (view_module m.now) function ≡ Some e) }
-    ensures at { (function : Function Label) → function_named (tree m.now) f ≡ Some function → IfErr result (λ e. NamesTheStop (context_of (view_module m.now) function) function.body e) }
-    ensures applies { (function : Function Label) → function_named (tree m.now) f ≡ Some function → IfErr result (λ e. Applies (context_of (view_module m.now) function) function.body e) }
+    ensures sound { (function : Function Label) → function_named (tree m.now) f ≡ Some function
+        → OnOk result (HasItsType (view_module m.now) function) }
+    ensures complete { (function : Function Label) → function_named (tree m.now) f ≡ Some function
+        → HasItsType (view_module m.now) function → IsOkUnless result NoMemory }
+    ensures fault { (function : Function Label) → function_named (tree m.now) f ≡ Some function
+        → IfErr result (λ e. e ≢ NoMemory → body_fault (view_module m.now) function ≡ Some e) }
+    ensures at { (function : Function Label) → function_named (tree m.now) f ≡ Some function
+        → IfErr result (λ e. NamesTheStop (context_of (view_module m.now) function) function.body e) }
+    ensures applies { (function : Function Label) → function_named (tree m.now) f ≡ Some function
+        → IfErr result (λ e. Applies (context_of (view_module m.now) function) function.body e) }
 {
     let mut checker = Checker::new(alloc);
     checker.check_body(m, f)
 }
 
 /// What checks the bodies of a module one after another in the same memory.
+/// Contracts see the blocks that are open in it.
 #[derive(Drop)]
 pub struct Checker {
     levels: Levels,
 }
 
+impl Model for Checker {
+    ghost use Rattle.std.specs.Prelude.{List};
+    ghost use Rattle.ctw_ops.specs.declared.types.Label.{Label};
+    ghost use Rattle.ctw_stack.specs.Pass.{Level};
+    ghost use Rattle.ctw_valid.specs.Levels.{levels_in};
+
+    ghost Value = { List (Level Label) };
+
+    ghost view = { λ c. levels_in c.levels };
+}
+
 impl Checker {
-    /// A checker that has no memory yet.
-    pub fn new(alloc: Global) -> Checker {
+    /// A checker that has no memory yet, and in which no block is open.
+    pub fn new(alloc: Global) -> Checker
+        ensures { result ≡ [] }
+    {
         Checker {
             levels: Levels {
                 stack: Stack::new(alloc),
@@ -82,11 +102,16 @@ impl Checker {
         requires typed { AreTyped (tree m.now) }
         requires defined { imported_count (tree m.now) ≤ f }
         requires there { f < length (function_entries (tree m.now)) }
-        ensures sound { (function : Function Label) → function_named (tree m.now) f ≡ Some function → OnOk result (HasItsType (view_module m.now) function) }
-        ensures complete { (function : Function Label) → function_named (tree m.now) f ≡ Some function → HasItsType (view_module m.now) function → IsOkUnless result NoMemory }
-        ensures fault { (function : Function Label) → function_named (tree m.now) f ≡ Some function → IfErr result (λ e. e ≢ NoMemory → body_fault (view_module m.now) function ≡ Some e) }
-        ensures at { (function : Function Label) → function_named (tree m.now) f ≡ Some function → IfErr result (λ e. NamesTheStop (context_of (view_module m.now) function) function.body e) }
-        ensures applies { (function : Function Label) → function_named (tree m.now) f ≡ Some function → IfErr result (λ e. Applies (context_of (view_module m.now) function) function.body e) }
+        ensures sound { (function : Function Label) → function_named (tree m.now) f ≡ Some function
+            → OnOk result (HasItsType (view_module m.now) function) }
+        ensures complete { (function : Function Label) → function_named (tree m.now) f ≡ Some function
+            → HasItsType (view_module m.now) function → IsOkUnless result NoMemory }
+        ensures fault { (function : Function Label) → function_named (tree m.now) f ≡ Some function
+            → IfErr result (λ e. e ≢ NoMemory → body_fault (view_module m.now) function ≡ Some e) }
+        ensures at { (function : Function Label) → function_named (tree m.now) f ≡ Some function
+            → IfErr result (λ e. NamesTheStop (context_of (view_module m.now) function) function.body e) }
+        ensures applies { (function : Function Label) → function_named (tree m.now) f ≡ Some function
+            → IfErr result (λ e. Applies (context_of (view_module m.now) function) function.body e) }
     {
         match m.body(f) {
             Some(body) => check_code(&mut self.levels, &Around::new(m, f), &body),

@@ -16,8 +16,8 @@ use ctw_flat::Instr;
 use ctw_ops::{Label, ValType};
 use ctw_stack::Stack;
 
-/// The row of an instruction without instructions inside, or the fault that it has whatever the operands are. Nothing is
-/// said of `block`, `loop`, `if`, `else` and `end`.
+/// The row of an instruction without instructions inside, or the fault that it has whatever the operands are. Nothing
+/// is said of `block`, `loop`, `if`, `else` and `end`.
 pub fn row_of<'a>(
     around: &Around<'a>,
     stack: &Stack<Label>,

@@ -12,6 +12,7 @@ ghost use Rattle.ctw_valid.specs.OnStack.{on_innermost, own_slots, Follows, Take
 
 use crate::fault::BodyFault;
 use crate::row::{Move, NUMBER, Row, Types};
+use ctw_flat::type_of_byte;
 use ctw_ops::{Label, SecretRule, ValType, Width};
 use ctw_stack::{Slot, Stack, Underflow};
 use std::alloc::AllocError;
@@ -83,20 +84,6 @@ fn expect_optional(stack: &mut Stack<Label>, t: Option<ValType>, at: u32) -> Res
     }
 }
 
-/// The value type of a byte.
-fn type_of(byte: u8) -> Option<ValType>
-    ensures { result ≡ byte_type byte }
-{
-    let (width, label) = match byte {
-        0x7F => (Width::W32, Label::Public),
-        0x7E => (Width::W64, Label::Public),
-        0x7A => (Width::W32, Label::Secret),
-        0x79 => (Width::W64, Label::Secret),
-        _ => return None,
-    };
-    Some(ValType { width, label })
-}
-
 /// Takes any value off.
 fn drop_one(stack: &mut Stack<Label>, at: u32) -> Result<(), BodyFault>
     requires { 0 < length stack.old }
@@ -118,7 +105,7 @@ fn expect_params(stack: &mut Stack<Label>, params: &[u8], at: u32) -> Result<(),
     let mut left = params.len();
     'back: while left > 0 {
         left -= 1;
-        expect_optional(stack, type_of(params[left]), at)?;
+        expect_optional(stack, type_of_byte(params[left]), at)?;
     }
     Ok(())
 }
@@ -252,7 +239,9 @@ fn take_index_below(
     at: u32,
 ) -> Result<(), BodyFault>
     requires { 0 < length stack.old }
-    ensures step { Follows result (on_innermost (expects same_label (top_types (Some rule) (Some last))) stack.old) stack.new (by_type at (guarded_secret (own_slots stack.old) (guarded_at (Some rule) (Some last)))) }
+    ensures step { Follows result (on_innermost (expects same_label (top_types (Some rule)
+        (Some last))) stack.old) stack.new (by_type at (guarded_secret (own_slots stack.old)
+        (guarded_at (Some rule) (Some last)))) }
     ensures public { OnOk result (guarded_secret (own_slots stack.old) (guarded_at (Some rule) (Some last)) ≡ None) }
     ensures kept { IsKept stack.old stack.new 0 }
 {

@@ -31,7 +31,8 @@ use std::alloc::Global;
 #[inline(always)]
 fn follow(stack: &mut Stack<Label>, row: &Result<Row, BodyFault>, at: u32) -> Result<(), BodyFault>
     requires few { slot_count stack.old < 2 ^ 32 - 1 }
-    ensures step { (C : Context Label) (op : Op Label) → LooksUpOp C op at row.now → OnLeaf C op at result stack.old stack.new }
+    ensures step { (C : Context Label) (op : Op Label) → LooksUpOp C op at row.now
+        → OnLeaf C op at result stack.old stack.new }
     ensures kept { IsKept stack.old stack.new 1 }
 {
     match row {
@@ -40,7 +41,8 @@ fn follow(stack: &mut Stack<Label>, row: &Result<Row, BodyFault>, at: u32) -> Re
     }
 }
 
-/// Does to the operands what an instruction without instructions inside does. The most common ones take the shortest way.
+/// Does to the operands what an instruction without instructions inside does.
+/// The most common ones take the shortest way.
 #[inline(always)]
 fn leaf(around: &Around, stack: &mut Stack<Label>, instr: &Instr, at: u32) -> Result<(), BodyFault>
     requires exactly { IsExactly instr.now }
@@ -107,7 +109,8 @@ fn pass_leaf(around: &Around, levels: &mut Levels, instr: &Instr, at: u32) -> Re
     requires exactly { IsExactly instr.now }
     requires even { IsEven levels.old }
     requires few { slot_count levels.old.stack < 2 ^ 32 - 1 }
-    ensures step { PassesLeaf (scope_of_body around.now) (op_of instr.now) at result (levels_in levels.old) (levels_in levels.new) }
+    ensures step { PassesLeaf (scope_of_body around.now) (op_of instr.now) at result (levels_in levels.old)
+        (levels_in levels.new) }
     ensures next { OnOk result (IsNext levels.old levels.new) }
 {
     leaf(around, &mut levels.stack, instr, at)
@@ -121,7 +124,8 @@ fn open_block(
     yields: Option<ValType>,
 ) -> Result<(), BodyFault>
     requires even { IsEven levels.old }
-    ensures step { Follows result (Some (level arm loops yields ∷ levels_in levels.old)) (levels_in levels.new) NoMemory }
+    ensures step { Follows result (Some (level arm loops yields ∷ levels_in levels.old))
+        (levels_in levels.new) NoMemory }
     ensures even { OnOk result (IsEven levels.new) }
     ensures slots { OnOk result (slot_count levels.new.stack ≡ slot_count levels.old.stack) }
 {
@@ -137,7 +141,8 @@ fn open_block(
 /// Opens a `block` or a `loop`.
 fn open(levels: &mut Levels, loops: bool, yields: Option<ValType>, at: u32) -> Result<(), BodyFault>
     requires even { IsEven levels.old }
-    ensures step { (C : Context Label) → Passes C (Opens (opener loops) yields) at result (levels_in levels.old) (levels_in levels.new) }
+    ensures step { (C : Context Label)
+        → Passes C (Opens (opener loops) yields) at result (levels_in levels.old) (levels_in levels.new) }
     ensures next { OnOk result (IsNext levels.old levels.new) }
 {
     if levels.stack.innermost().is_none() {
@@ -150,7 +155,8 @@ fn open(levels: &mut Levels, loops: bool, yields: Option<ValType>, at: u32) -> R
 /// Takes a condition, and opens the then arm of an `if`.
 fn open_if(levels: &mut Levels, yields: Option<ValType>, at: u32) -> Result<(), BodyFault>
     requires even { IsEven levels.old }
-    ensures step { (a : Around) → Passes (scope_of_body a) (Opens OfIf yields) at result (levels_in levels.old) (levels_in levels.new) }
+    ensures step { (a : Around)
+        → Passes (scope_of_body a) (Opens OfIf yields) at result (levels_in levels.old) (levels_in levels.new) }
     ensures next { OnOk result (IsNext levels.old levels.new) }
 {
     if levels.stack.innermost().is_none() {
@@ -183,7 +189,8 @@ fn drop_arm(arms: &mut Vec<bool>)
 fn pass_end(levels: &mut Levels, at: u32) -> Result<(), BodyFault>
     requires even { IsEven levels.old }
     requires few { slot_count levels.old.stack < 2 ^ 32 - 1 }
-    ensures step { (C : Context Label) → Passes C (Closes ByEnd) at result (levels_in levels.old) (levels_in levels.new) }
+    ensures step { (C : Context Label)
+        → Passes C (Closes ByEnd) at result (levels_in levels.old) (levels_in levels.new) }
     ensures next { OnOk result (IsNext levels.old levels.new) }
 {
     let arm = is_arm(levels.arms.as_slice());
@@ -195,7 +202,8 @@ fn pass_end(levels: &mut Levels, at: u32) -> Result<(), BodyFault>
 /// Passes an `else`.
 fn pass_else(levels: &mut Levels, at: u32) -> Result<(), BodyFault>
     requires even { IsEven levels.old }
-    ensures step { (C : Context Label) → Passes C (Closes ByElse) at result (levels_in levels.old) (levels_in levels.new) }
+    ensures step { (C : Context Label)
+        → Passes C (Closes ByElse) at result (levels_in levels.old) (levels_in levels.new) }
     ensures next { OnOk result (IsNext levels.old levels.new) }
 {
     let arm = is_arm(levels.arms.as_slice());
@@ -211,7 +219,8 @@ pub fn step(around: &Around, levels: &mut Levels, instr: &Instr, at: u32) -> Res
     requires exactly { IsExactly instr.now }
     requires even { IsEven levels.old }
     requires few { slot_count levels.old.stack < 2 ^ 32 - 1 }
-    ensures step { Passes (scope_of_body around.now) (op_of instr.now) at result (levels_in levels.old) (levels_in levels.new) }
+    ensures step { Passes (scope_of_body around.now) (op_of instr.now) at result (levels_in levels.old)
+        (levels_in levels.new) }
     ensures next { OnOk result (IsNext levels.old levels.new) }
 {
     match *instr {
@@ -226,7 +235,8 @@ pub fn step(around: &Around, levels: &mut Levels, instr: &Instr, at: u32) -> Res
 
 /// The block of a body, before its first opcode.
 pub fn begin(levels: &mut Levels, yields: Option<ValType>) -> Result<(), BodyFault>
-    ensures begun { OnOk result ((levels_in levels.new ≡ level false false yields ∷ []) × IsEven levels.new × (slot_count levels.new.stack ≡ 0)) }
+    ensures begun { OnOk result ((levels_in levels.new ≡ level false false yields ∷ []) × IsEven levels.new
+        × (slot_count levels.new.stack ≡ 0)) }
     ensures memory { IfErr result (λ e. e ≡ NoMemory) }
 {
     levels.stack.clear();

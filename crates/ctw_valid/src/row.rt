@@ -50,7 +50,8 @@ pub enum Row<'a> {
 /// A row that takes at most one value and gives at most one.
 #[inline(always)]
 pub fn simple<'a>(last: Option<ValType>, gives: Option<ValType>) -> Row<'a>
-    ensures { result ≡ Moves (record { first = One None; index = None; last = last; fits = true; gives = gives; ends = false }) }
+    ensures { result
+        ≡ Moves (record { first = One None; index = None; last = last; fits = true; gives = gives; ends = false }) }
 {
     Row::Moves(Move {
         first: Types::One(None),
@@ -65,7 +66,8 @@ pub fn simple<'a>(last: Option<ValType>, gives: Option<ValType>) -> Row<'a>
 /// A row behind which the block is dead.
 #[inline(always)]
 pub fn ending<'a>(first: Option<ValType>, index: Option<SecretRule>, fits: bool) -> Row<'a>
-    ensures { result ≡ Moves (record { first = One first; index = index; last = None; fits = fits; gives = None; ends = true }) }
+    ensures { result
+        ≡ Moves (record { first = One first; index = index; last = None; fits = fits; gives = None; ends = true }) }
 {
     Row::Moves(Move {
         first: Types::One(first),
@@ -85,7 +87,15 @@ pub fn indexed<'a>(
     fits: bool,
     gives: Option<ValType>,
 ) -> Row<'a>
-    ensures { result ≡ Moves (record { first = One first; index = Some rule; last = None; fits = fits; gives = gives; ends = false }) }
+    ensures { result
+        ≡ Moves (record {
+          first = One first;
+          index = Some rule;
+          last = None;
+          fits = fits;
+          gives = gives;
+          ends = false;
+        }) }
 {
     Row::Moves(Move {
         first: Types::One(first),

@@ -1,4 +1,4 @@
-ghost use Rattle.std.specs.Prelude.{◌≡◌, ◌++◌, ◌&&◌, ℕ, List, take, true};
+ghost use Rattle.std.specs.Prelude.{◌≡◌, ◌&&◌, true};
 ghost use Rattle.ctw_leb.specs.Grammar.{Times};
 ghost use Rattle.ctw_leb.specs.Numbers.{IsU32};
 ghost use Rattle.ctw_flat.specs.Instructions.{targets_in};
@@ -9,14 +9,14 @@ ghost use Rattle.ctw_stack.specs.Steps.{same_result, same_type as types_equal};
 ghost use Rattle.ctw_valid.specs.Faults.{same_label};
 ghost use Rattle.ctw_valid.specs.Rows.{LooksUp};
 ghost use Rattle.ctw_valid.specs.Scope.{scope};
-ghost use Rattle.ctw_valid.specs.Tables.{labels_in, fit, IsFirst};
+ghost use Rattle.ctw_valid.specs.Tables.{labels_in, fit};
 
 use crate::around::Around;
 use crate::control::carried;
 use crate::fault::BodyFault;
 use crate::operands::{is_same_label, is_same_width};
 use crate::row::{Row, ending};
-use ctw_leb::Cursor;
+use ctw_flat::Targets;
 use ctw_ops::{Label, SecretRule, ValType};
 use ctw_stack::Stack;
 
@@ -45,52 +45,16 @@ fn is_same_too(passed: bool, a: &Option<ValType>, b: &Option<ValType>) -> bool
     is_same_result(a, b) && passed
 }
 
-/// The most bytes of a number below 2^32.
-const NUMBER_BYTES: usize = 5;
-
-/// The bytes in which a first number stands.
-fn window(spelled: &[u8]) -> &[u8]
-    ensures { result.now ≡ take 5 spelled.now }
-{
-    if spelled.len() < NUMBER_BYTES {
-        return spelled;
-    }
-    &spelled[..NUMBER_BYTES]
-}
-
-/// The first of spelled numbers, with the bytes behind it. None where none stands there.
-fn first_number(spelled: &[u8]) -> Option<(u32, &[u8])>
-    ensures { (text after : List ℕ) (n : ℕ) → IsU32 text n → spelled.now ≡ text ++ after → IsFirst result n after }
-{
-    let mut cursor = Cursor::new(window(spelled), 0);
-    match cursor.read_u32() {
-        Ok(n) => Some((n, &spelled[cursor.place() as usize..])),
-        Err(_) => None,
-    }
-}
-
 /// Whether all targets' labels carry the same as `t`. None where one of these labels isn't there.
-fn fit_targets(
-    stack: &Stack<Label>,
-    targets: &[u8],
-    count: u32,
-    t: &Option<ValType>,
-) -> Option<bool>
-    requires { Times IsU32 count targets.now (targets_in count targets.now) }
-    ensures { (C : Context Label) → C.labels ≡ labels_in stack.now → result ≡ fit C t.now true (targets_in count targets.now) }
+fn fit_targets(stack: &Stack<Label>, mut targets: Targets, t: &Option<ValType>) -> Option<bool>
+    ensures { (C : Context Label) → C.labels ≡ labels_in stack.now → result ≡ fit C t.now true targets.entry }
 {
-    let mut rest = targets;
     let mut fits = true;
-    'targets: for _ in 0..count {
-        let (depth, behind) = match first_number(rest) {
-            Some(first) => first,
-            None => return None,
-        };
+    'targets: while let Some(depth) = targets.next() {
         match carried(stack, depth) {
             Some(u) => fits = is_same_too(fits, &u, t),
             None => return None,
         }
-        rest = behind;
     }
     Some(fits)
 }
@@ -105,10 +69,11 @@ pub fn branch_table<'a>(
     at: u32,
 ) -> Result<Row<'a>, BodyFault>
     requires { Times IsU32 count targets.now (targets_in count targets.now) }
-    ensures { LooksUp (scope around.now (labels_in stack.now)) (BrTable (targets_in count targets.now) otherwise) at result }
+    ensures { LooksUp (scope around.now (labels_in stack.now))
+        (BrTable (targets_in count targets.now) otherwise) at result }
 {
     match carried(stack, otherwise) {
-        Some(t) => match fit_targets(stack, targets, count, &t) {
+        Some(t) => match fit_targets(stack, Targets::new(targets, count), &t) {
             Some(fits) => Ok(ending(t, Some(SecretRule::TableIndex), fits)),
             None => Err(BodyFault::Index { at }),
         },

@@ -122,7 +122,9 @@ pub fn load<'a>(
     align: u32,
     at: u32,
 ) -> Result<Row<'a>, BodyFault>
-    ensures { (signed : Bool) (offset : ℕ) → is_load loaded.width bytes signed ≡ true → LooksUp (scope around.now (labels_in stack.now)) (Load loaded.width loaded.tag bytes signed align offset) at result }
+    ensures { (signed : Bool) (offset : ℕ) → is_load loaded.width bytes signed ≡ true
+        → LooksUp (scope around.now (labels_in stack.now))
+        (Load loaded.width loaded.tag bytes signed align offset) at result }
 {
     let fits = match around.memory() {
         Some(label) => is_same_label(label, loaded.label),
@@ -144,7 +146,9 @@ pub fn store<'a>(
     align: u32,
     at: u32,
 ) -> Result<Row<'a>, BodyFault>
-    ensures { (offset : ℕ) → is_store stored.width bytes ≡ true → LooksUp (scope around.now (labels_in stack.now)) (Store stored.width stored.tag bytes align offset) at result }
+    ensures { (offset : ℕ) → is_store stored.width bytes ≡ true
+        → LooksUp (scope around.now (labels_in stack.now))
+        (Store stored.width stored.tag bytes align offset) at result }
 {
     let fits = match around.memory() {
         Some(label) => is_same_label(label, stored.label),
@@ -194,7 +198,15 @@ fn leaks_secret(op: NumOp, profile: Profile, label: Label) -> bool
 /// The row of an operation with two operands.
 #[inline(always)]
 fn two_operands<'a>(sig: NumSig, label: Label) -> Row<'a>
-    ensures { result ≡ Moves (record { first = One (Some (value_type sig.operand label)); index = None; last = Some (value_type sig.operand label); fits = true; gives = Some (value_type sig.result label); ends = false }) }
+    ensures { result
+        ≡ Moves (record {
+          first = One (Some (value_type sig.operand label));
+          index = None;
+          last = Some (value_type sig.operand label);
+          fits = true;
+          gives = Some (value_type sig.result label);
+          ends = false;
+        }) }
 {
     Row::Moves(Move {
         first: Types::One(Some(ValType {
@@ -218,7 +230,15 @@ fn two_operands<'a>(sig: NumSig, label: Label) -> Row<'a>
 /// The row of an operation with one operand.
 #[inline(always)]
 fn one_operand<'a>(sig: NumSig, label: Label) -> Row<'a>
-    ensures { result ≡ Moves (record { first = One None; index = None; last = Some (value_type sig.operand label); fits = true; gives = Some (value_type sig.result label); ends = false }) }
+    ensures { result
+        ≡ Moves (record {
+          first = One None;
+          index = None;
+          last = Some (value_type sig.operand label);
+          fits = true;
+          gives = Some (value_type sig.result label);
+          ends = false;
+        }) }
 {
     simple(
         Some(ValType {
@@ -268,7 +288,15 @@ pub fn constant<'a>(width: Width, label: Label) -> Row<'a>
 
 /// The row of a `classify`.
 pub fn classify<'a>(width: Width) -> Row<'a>
-    ensures { result ≡ Moves (record { first = One None; index = None; last = Some (value_type width Public); fits = true; gives = Some (value_type width Secret); ends = false }) }
+    ensures { result
+        ≡ Moves (record {
+          first = One None;
+          index = None;
+          last = Some (value_type width Public);
+          fits = true;
+          gives = Some (value_type width Secret);
+          ends = false;
+        }) }
 {
     simple(
         Some(ValType {

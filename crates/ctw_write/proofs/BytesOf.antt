@@ -1,5 +1,5 @@
 -- In each table one byte stands for a value: the one that is written for it.
-use Rattle.std.proofs.Common.{◌≡◌, ℕ, Bool, true, false, cond, ◌&&◌, Option, Result, Ok, Err, refl, sym, ap, subst, ◌∙◌, inl, inr, rules}
+use Rattle.std.proofs.Common.{◌≡◌, ℕ, Bool, true, false, cond, ◌&&◌, Option, Result, Ok, Err, refl, sym, ap, subst, ◌∙◌, rules}
 use Rattle.std.specs.Prelude.{◌==◌}
 use Rattle.std.proofs.lemmas.Bool.{eqb-true}
 use Rattle.ctw_ops.specs.ValueType.{ValueType}
@@ -9,31 +9,24 @@ use Rattle.ctw_ops.specs.declared.types.Label.TheVariants.{Public, Secret}
 use Rattle.ctw_ops.specs.declared.types.Width.{Width}
 use Rattle.ctw_ops.specs.declared.types.Trust.{Trust}
 use Rattle.ctw_ops.specs.declared.types.ExternTag.{ExternTag}
-use Rattle.ctw_flat.specs.declared.fault.CodeKind.{CodeKind}
-use Rattle.ctw_flat.specs.declared.fault.CodeKind.TheVariants.{BadOpcode}
-use Rattle.ctw_flat.specs.declared.opcode.Bare.{Bare}
-use Rattle.ctw_flat.specs.declared.opcode.Bare.TheVariants as bare
-use Rattle.ctw_flat.specs.declared.opcode.Indexed.{Indexed}
 use Rattle.ctw_flat.specs.declared.opcode.Indexed.TheVariants as indexed
-use Rattle.ctw_flat.specs.declared.opcode.Access.TheVariants as access
-use Rattle.ctw_flat.specs.declared.opcode.Form.{Form}
 use Rattle.ctw_flat.specs.declared.opcode.Form.TheVariants as form
 use Rattle.ctw_flat.specs.declared.opcode.First.{First}
 use Rattle.ctw_flat.specs.declared.opcode.First.TheVariants.{Direct, Prefix}
-use Rattle.ctw_flat.specs.Opcodes as code
-use Rattle.ctw_flat.specs.Opcodes.{control_form, variable_form, labelling_form, opcode, direct, has_secret_form, if_secret, secret_form, block_type, reserved}
-use Rattle.ctw_leb.proofs.Exact.{ok_is, err_ok, chosen}
-use Rattle.ctw_module.specs.declared.fault.FormKind.{FormKind}
-use Rattle.ctw_module.specs.declared.table.EntryForm.{EntryForm}
-use Rattle.ctw_module.specs.declared.table.EntryForm.TheVariants as entry
-use Rattle.ctw_module.specs.declared.table.MemoryForm.{MemoryForm}
-use Rattle.ctw_module.specs.declared.table.ConstantForm.{ConstantForm}
-use Rattle.ctw_module.specs.declared.table.ConstantForm.TheVariants as constant
-use Rattle.ctw_module.specs.declared.table.Held.{Held}
-use Rattle.ctw_module.specs.Tables.{labelled, value_type, entry_form, trust_byte, table_byte, limits_form, memory_form, mutability, extern_kind, import_kind, constant_form, secret_constant, constant_end}
+use Rattle.ctw_flat.specs.Opcodes.{opcode, const_opcode, opcode_byte, prefix_byte, block_type, reserved}
+use Rattle.ctw_flat.proofs.OpcodeBytes as table
+use Rattle.ctw_flat.proofs.OpcodeBytes.{prefix_is}
+use Rattle.ctw_leb.proofs.Exact.{ok_is, err_ok}
+use Rattle.ctw_form.specs.declared.fault.FormKind.{FormKind}
+use Rattle.ctw_form.specs.declared.table.EntryForm.{EntryForm}
+use Rattle.ctw_form.specs.declared.table.EntryForm.TheVariants as entry
+use Rattle.ctw_form.specs.declared.table.MemoryForm.{MemoryForm}
+use Rattle.ctw_form.specs.declared.table.ConstantForm.{ConstantForm}
+use Rattle.ctw_form.specs.declared.table.ConstantForm.TheVariants as constant
+use Rattle.ctw_form.specs.declared.table.Held.{Held}
+use Rattle.ctw_form.specs.Tables.{labelled, value_type, entry_form, trust_byte, table_byte, limits_form, memory_form, mutability, extern_kind, import_kind, constant_form, secret_constant, constant_end}
 use Rattle.ctw_write.specs.Canon as write
-use Rattle.ctw_write.specs.Canon.{entry_byte, mutable_byte, kind_byte, const_byte, load_byte, store_byte, classify_byte, declassify_byte, shape_byte, block_type_byte}
-use Rattle.ctw_flat.specs.Spelled.{shape_of}
+use Rattle.ctw_write.specs.Canon.{entry_byte, mutable_byte, kind_byte, block_type_byte}
 
 -- ---- tables
 
@@ -150,9 +143,9 @@ pub import_is : (held : Held) (b : ℕ) (kind : ExternTag) → import_kind held 
 import_is held b kind e = (import_row held b).is kind e
 
 abbrev pub constant_byte : ConstantForm → ℕ
-constant_byte (constant.Number width) = const_byte width
-constant_byte constant.Global = 0x23
-constant_byte constant.Prefix = 0xE0
+constant_byte (constant.Number width) = opcode_byte (form.Const width)
+constant_byte constant.Global = opcode_byte (form.Indexed indexed.GlobalGet)
+constant_byte constant.Prefix = prefix_byte
 
 constant_row : (ct : Bool) (b : ℕ) → Byte constant_byte b (constant_form ct b)
 unfolding constant_form
@@ -161,11 +154,11 @@ constant_row ct b = search (rules, at, at_both, good, bad) depth 60 fits 600
 pub constant_is : (ct : Bool) (b : ℕ) (f : ConstantForm) → constant_form ct b ≡ Ok f → constant_byte f ≡ b
 constant_is ct b f e = (constant_row ct b).is f e
 
-secret_constant_row : (b : ℕ) → Byte const_byte b (secret_constant b)
+secret_constant_row : (b : ℕ) → Byte const_opcode b (secret_constant b)
 unfolding secret_constant
 secret_constant_row b = search (rules, at, good, bad) depth 60 fits 600
 
-pub secret_constant_is : (b : ℕ) (width : Width) → secret_constant b ≡ Ok width → const_byte width ≡ b
+pub secret_constant_is : (b : ℕ) (width : Width) → secret_constant b ≡ Ok width → const_opcode width ≡ b
 secret_constant_is b width e = (secret_constant_row b).is width e
 
 constant_end_row : (ct : Bool) (b : ℕ) → Byte (λ (u : Unit {0}). 0x0B) b (constant_end ct b)
@@ -177,88 +170,13 @@ constant_end_is ct b u e = (constant_end_row ct b).is u e
 
 -- ---- opcodes
 
-abbrev bare_byte : Bare → ℕ
-bare_byte bare.Unreachable = 0x00
-bare_byte bare.Nop = 0x01
-bare_byte bare.Else = 0x05
-bare_byte bare.End = 0x0B
-bare_byte bare.Return = 0x0F
-bare_byte bare.Drop = 0x1A
-bare_byte (bare.Classify width) = classify_byte width
-bare_byte (bare.Declassify width) = declassify_byte width
-
-abbrev indexed_byte : Indexed → ℕ
-indexed_byte indexed.Br = 0x0C
-indexed_byte indexed.BrIf = 0x0D
-indexed_byte indexed.Call = 0x10
-indexed_byte indexed.LocalGet = 0x20
-indexed_byte indexed.LocalSet = 0x21
-indexed_byte indexed.LocalTee = 0x22
-indexed_byte indexed.GlobalGet = 0x23
-indexed_byte indexed.GlobalSet = 0x24
-
-abbrev pub form_byte : Form → ℕ
-form_byte (form.Bare b) = bare_byte b
-form_byte (form.Opens o) = shape_byte (shape_of o)
-form_byte (form.Indexed x) = indexed_byte x
-form_byte form.BrTable = 0x0E
-form_byte form.CallIndirect = 0x11
-form_byte form.MemorySize = 0x3F
-form_byte form.MemoryGrow = 0x40
-form_byte form.Select = 0x1B
-form_byte (form.Access (access.Load width bytes signed)) = load_byte width bytes signed
-form_byte (form.Access (access.Store width bytes)) = store_byte width bytes
-form_byte (form.Const width) = const_byte width
-form_byte (form.Numeric op) = op
-
-control_row : (b : ℕ) → Byte form_byte b (control_form b)
-unfolding control_form
-control_row b = search (rules, at, good, bad) depth 80 fits 900
-
-variable_row : (b : ℕ) → Byte form_byte b (variable_form b)
-unfolding variable_form
-variable_row b = search (rules, at, good, bad) depth 80 fits 900
-
-memory_form_row : (b : ℕ) → Byte form_byte b (code.memory_form b)
-unfolding code.memory_form
-memory_form_row b = search (rules, at, good, bad) depth 120 fits 1500
-
-labelling_row : (b : ℕ) → Byte form_byte b (labelling_form b)
-unfolding labelling_form
-labelling_row b = search (rules, at, good, bad) depth 80 fits 900
-
-form_row : (b : ℕ) → Byte form_byte b (code.form b)
-unfolding code.form
-form_row b = search (rules, either, good, bad, control_row, variable_row, memory_form_row, labelling_row) depth 80 fits 900
-
 abbrev pub first_byte : First → ℕ
-first_byte Prefix = 0xE0
-first_byte (Direct f) = form_byte f
-
-direct_row : (b : ℕ) (r : Result Form CodeKind) → Byte form_byte b r → Byte first_byte b (direct r)
-direct_row b (Ok f) h = good first_byte b (Direct f) (h.is f refl)
-direct_row b (Err kind) h = bad first_byte b kind
-
-opcode_row : (b : ℕ) → Byte first_byte b (opcode b)
-unfolding opcode
-opcode_row b = at first_byte b 0xE0 (Ok Prefix) (direct (code.form b)) (good first_byte 0xE0 Prefix refl) (direct_row b (code.form b) (form_row b))
+first_byte Prefix = prefix_byte
+first_byte (Direct f) = opcode_byte f
 
 pub opcode_is : (b : ℕ) (f : First) → opcode b ≡ Ok f → first_byte f ≡ b
-opcode_is b f e = (opcode_row b).is f e
-
-secret_if : (r : Result Form CodeKind) (f : Form) → if_secret r ≡ Ok f → (r ≡ Ok f) × (has_secret_form f ≡ true)
-secret_if (Ok g) f e =
-    elim (chosen (has_secret_form g) (Ok g) (Err BadOpcode) (Ok f) e) [
-      | inl p ↦ (p.1, ap has_secret_form (sym (ok_is {F = CodeKind} g f p.1)) ∙ p.0)
-      | inr p ↦ absurd (err_ok BadOpcode f p.1)
-    ]
-secret_if (Err kind) f e = absurd (err_ok kind f e)
-
-pub secret_is : (b : ℕ) (f : Form) → secret_form b ≡ Ok f → (form_byte f ≡ b) × (has_secret_form f ≡ true)
-unfolding secret_form
-secret_is b f e =
-    let s = secret_if (code.form b) f e in
-    ((form_row b).is f s.0, s.1)
+opcode_is b Prefix e = prefix_is b e
+opcode_is b (Direct f) e = (table.opcode_is b f e).1
 
 block_row : (b : ℕ) → Byte block_type_byte b (block_type b)
 unfolding block_type

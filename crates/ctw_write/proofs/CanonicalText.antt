@@ -7,11 +7,11 @@ use Rattle.ctw_ops.specs.Tree.{Module, Function, Custom}
 use Rattle.ctw_leb.specs.Grammar.{Items, state_after}
 use Rattle.ctw_leb.specs.Spelling.{u32_text}
 use Rattle.ctw_ops.specs.Limits.{most_plain_bytes}
-use Rattle.ctw_module.specs.declared.sections.Seen.{Seen}
-use Rattle.ctw_module.specs.Sections.{Entry, Section, Parts, no_parts, nothing_seen, seen_after, with_section, locals_of, functions_of, module_of}
-use Rattle.ctw_module.specs.Spelled.{IsSection, magic, version, File, file_of, IsFile, Spells}
-use Rattle.ctw_module.proofs.FileForms.{one_module}
-use Rattle.ctw_module.proofs.SpelledTrees.{file_filled}
+use Rattle.ctw_form.specs.declared.sections.Seen.{Seen}
+use Rattle.ctw_form.specs.Sections.{Entry, Section, Parts, no_parts, nothing_seen, seen_after, with_section, locals_of, functions_of, module_of}
+use Rattle.ctw_form.specs.Spelled.{IsSection, magic, version, File, file_of, IsFile, Spells}
+use Rattle.ctw_form.proofs.FileForms.{one_module}
+use Rattle.ctw_form.proofs.SpelledParts.{file_filled}
 use Rattle.ctw_write.specs.Canon.{all_texts, vector_text, items_text, code_text, placed_text, sections_text, canon}
 use Rattle.ctw_write.proofs.GroupTexts.{settled_entry, entry_text, groups_locals}
 use Rattle.ctw_write.proofs.Pieces.{pieces, laid}

@@ -12,11 +12,12 @@ use Rattle.ctw_ops.specs.declared.types.Trust.TheVariants.{Untrusted, Trusted}
 use Rattle.ctw_ops.specs.declared.types.ExternTag.{ExternTag}
 use Rattle.ctw_ops.specs.declared.types.ExternTag.TheVariants as tag
 use Rattle.ctw_flat.specs.Opcodes.{block_type}
-use Rattle.ctw_module.specs.declared.table.EntryForm.TheVariants.{Direct, Variant}
-use Rattle.ctw_module.specs.declared.table.ConstantForm.TheVariants as constant
-use Rattle.ctw_module.specs.Tables.{value_type, entry_form, trust_byte, table_byte, limits_form, memory_form, mutability, extern_kind, constant_form, secret_constant, constant_end}
+use Rattle.ctw_form.specs.declared.table.EntryForm.TheVariants.{Direct, Variant}
+use Rattle.ctw_form.specs.declared.table.ConstantForm.TheVariants as constant
+use Rattle.ctw_form.specs.Tables.{value_type, entry_form, trust_byte, table_byte, limits_form, memory_form, mutability, extern_kind, constant_form, secret_constant, constant_end}
 use Rattle.ctw_write.specs.Canon as write
-use Rattle.ctw_write.specs.Canon.{entry_byte, mutable_byte, kind_byte, const_byte, block_type_byte}
+use Rattle.ctw_flat.specs.Opcodes.{const_opcode}
+use Rattle.ctw_write.specs.Canon.{entry_byte, mutable_byte, kind_byte, block_type_byte}
 use Rattle.ctw_write.proofs.BytesOf.{bound_byte, memory_byte}
 
 not_public : {A : Type 0} → Secret ≡ Public → A
@@ -83,7 +84,7 @@ table_there = refl
 
 -- ---- constants
 
-pub number_there : (ct : Bool) (width : Width) → constant_form ct (const_byte width) ≡ Ok (constant.Number width)
+pub number_there : (ct : Bool) (width : Width) → constant_form ct (const_opcode width) ≡ Ok (constant.Number width)
 unfolding constant_form
 number_there ct W32 = refl
 number_there ct W64 = refl
@@ -96,7 +97,7 @@ pub prefix_there : constant_form true 0xE0 ≡ Ok constant.Prefix
 unfolding constant_form
 prefix_there = refl
 
-pub secret_there : (width : Width) → secret_constant (const_byte width) ≡ Ok width
+pub secret_there : (width : Width) → secret_constant (const_opcode width) ≡ Ok width
 unfolding secret_constant
 secret_there W32 = refl
 secret_there W64 = refl

@@ -11,9 +11,9 @@ use Rattle.ctw_ops.specs.Plain.{IsPlainFunction}
 use Rattle.ctw_ops.specs.Tree.{Function}
 use Rattle.ctw_leb.specs.Grammar.{TimesFrom}
 use Rattle.ctw_leb.specs.Spelling.{u32_text}
-use Rattle.ctw_module.specs.Sections.{Entry, functions_of}
-use Rattle.ctw_module.specs.Spelled.{IsEntry, all_after, IsCodes}
-use Rattle.ctw_module.proofs.CodeForms.{EntryInsides}
+use Rattle.ctw_form.specs.Sections.{Entry, functions_of}
+use Rattle.ctw_form.specs.Spelled.{IsEntry, all_after, IsCodes}
+use Rattle.ctw_form.proofs.CodeForms.{EntryInsides}
 use Rattle.ctw_write.specs.Canon.{all_texts, vector_text, groups_of, group_text, body_text, code_text}
 use Rattle.ctw_write.specs.KeepsLimits.{Is32, IsShort, IsLimitedFunction}
 use Rattle.ctw_write.proofs.GroupTexts.{groups_locals, groups_spelled}

@@ -5,7 +5,7 @@ use Rattle.std.specs.List.{All}
 use Rattle.std.proofs.lemmas.List.{length-append}
 use Rattle.std.proofs.lemmas.List.Elements.{All-nil, All-cons, All-head, All-tail}
 use Rattle.std.proofs.lemmas.Option.{IfSome_then}
-use Rattle.ctw_module.specs.declared.table.Held.{Held}
+use Rattle.ctw_form.specs.declared.table.Held.{Held}
 use Rattle.ctw_ops.specs.declared.types.Label.{Label}
 use Rattle.ctw_ops.specs.declared.types.Label.TheVariants.{Public, Secret}
 use Rattle.ctw_ops.specs.Types.{MemoryType}
@@ -18,10 +18,10 @@ use Rattle.ctw_leb.specs.Grammar.{Grammar, Mapped, Times}
 use Rattle.ctw_leb.specs.Numbers.{IsU32}
 use Rattle.ctw_leb.specs.Vectors.{Vector, Sized}
 use Rattle.ctw_leb.specs.Spelling.{u32_text}
-use Rattle.ctw_module.specs.declared.table.SectionKind.TheVariants as kind
-use Rattle.ctw_module.specs.declared.sections.Seen.{Seen}
-use Rattle.ctw_module.specs.Sections.{Section, TypeSection, ImportSection, FunctionSection, TableSection, MemorySection, GlobalSection, ExportSection, StartSection, ElementSection, CodeSection, DataSection, none_held, held_by}
-use Rattle.ctw_module.specs.Spelled.{VectorUpto, IsTypeEntry, IsTable, IsMemory, IsGlobal, IsExport, IsElement, IsSegment, IsImports, IsCodes, room, Insides}
+use Rattle.ctw_form.specs.declared.table.SectionKind.TheVariants as kind
+use Rattle.ctw_form.specs.declared.sections.Seen.{Seen}
+use Rattle.ctw_form.specs.Sections.{Section, TypeSection, ImportSection, FunctionSection, TableSection, MemorySection, GlobalSection, ExportSection, StartSection, ElementSection, CodeSection, DataSection, none_held, held_by}
+use Rattle.ctw_form.specs.Spelled.{VectorUpto, IsTypeEntry, IsTable, IsMemory, IsGlobal, IsExport, IsElement, IsSegment, IsImports, IsCodes, room, Insides}
 use Rattle.ctw_write.specs.Canon.{all_texts, vector_text, sized_text, type_entry_text, import_text, extern_text, table_text, memory_text, global_text, export_text, kind_byte, constant_text, element_text, groups_of, group_text, body_text, code_text, segment_text}
 use Rattle.ctw_write.specs.KeepsLimits.{Is32, IsShort, AreSizes, KeepsLimits}
 use Rattle.ctw_write.proofs.FormedNumbers.{number_spelled, number_some, number_short, count_short, items_short, vector_short, vector_spelled, upto_spelled, sized_spelled, size_short}

@@ -10,9 +10,9 @@ use Rattle.ctw_ops.specs.Plain.{IsPlainExtern}
 use Rattle.ctw_ops.specs.Tree.{Extern, ImportedFunction, ImportedTable, ImportedMemory, ImportedGlobal, Import}
 use Rattle.ctw_leb.specs.Grammar.{TimesFrom}
 use Rattle.ctw_leb.specs.Spelling.{u32_text}
-use Rattle.ctw_module.specs.declared.table.Held.{Held}
-use Rattle.ctw_module.specs.Sections.{none_held, held_with, held_after, held_by}
-use Rattle.ctw_module.specs.Spelled.{IsImport, IsImports, room}
+use Rattle.ctw_form.specs.declared.table.Held.{Held}
+use Rattle.ctw_form.specs.Sections.{none_held, held_with, held_after, held_by}
+use Rattle.ctw_form.specs.Spelled.{IsImport, IsImports, room}
 use Rattle.ctw_write.specs.Canon.{all_texts, vector_text, import_text}
 use Rattle.ctw_write.specs.KeepsLimits.{Is32, IsShort, IsLimitedImport}
 use Rattle.ctw_write.proofs.FormedNumbers.{number_spelled}

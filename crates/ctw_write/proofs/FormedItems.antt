@@ -19,14 +19,15 @@ use Rattle.ctw_ops.specs.Valid.{IsFitting}
 use Rattle.ctw_leb.specs.Grammar.{◌>>=◌, OneOf}
 use Rattle.ctw_leb.specs.Numbers.{IsU32}
 use Rattle.ctw_leb.specs.Spelling.{u32_text}
-use Rattle.ctw_module.specs.declared.table.EntryForm.TheVariants.{Direct, Variant}
-use Rattle.ctw_module.specs.declared.table.ConstantForm.TheVariants as constant
-use Rattle.ctw_module.specs.declared.table.Held.{Held}
-use Rattle.ctw_module.specs.Tables.{import_kind, extern_kind}
-use Rattle.ctw_module.specs.Sections.{first}
-use Rattle.ctw_module.specs.Spelled.{IsValueType, IsSignature, IsTypeEntry, unbounded, bounded, Sizes, IsTable, IsMemory, IsVariable, IsExtern, IsImport, IsExport, IsConstant, IsGlobal, IsElement, IsSegment}
+use Rattle.ctw_form.specs.declared.table.EntryForm.TheVariants.{Direct, Variant}
+use Rattle.ctw_form.specs.declared.table.ConstantForm.TheVariants as constant
+use Rattle.ctw_form.specs.declared.table.Held.{Held}
+use Rattle.ctw_form.specs.Tables.{import_kind, extern_kind}
+use Rattle.ctw_form.specs.Sections.{first}
+use Rattle.ctw_form.specs.Spelled.{IsValueType, IsSignature, IsTypeEntry, unbounded, bounded, Sizes, IsTable, IsMemory, IsVariable, IsExtern, IsImport, IsExport, IsConstant, IsGlobal, IsElement, IsSegment}
 use Rattle.ctw_write.specs.Canon as write
-use Rattle.ctw_write.specs.Canon.{all_texts, vector_text, sized_text, type_text, signature_text, entry_byte, type_entry_text, table_text, memory_text, mutable_byte, variable_text, extern_text, import_text, kind_byte, export_text, bits_text, const_byte, constant_text, global_text, element_text, segment_text}
+use Rattle.ctw_flat.specs.Opcodes.{const_opcode}
+use Rattle.ctw_write.specs.Canon.{all_texts, vector_text, sized_text, type_text, signature_text, entry_byte, type_entry_text, table_text, memory_text, mutable_byte, variable_text, extern_text, import_text, kind_byte, export_text, bits_text, constant_text, global_text, element_text, segment_text}
 use Rattle.ctw_write.specs.KeepsLimits.{Is32, IsShort, AreSizes, IsLimitedEntry, IsLimitedExtern, IsLimitedImport, IsLimitedExport, IsLimitedConstant, IsLimitedElement, IsLimitedSegment}
 use Rattle.ctw_write.proofs.FormedNumbers.{number_spelled, number_some, bits_spelled, count_short, vector_spelled, upto_spelled, bytes_spelled, name_spelled, size_short, vector_short}
 use Rattle.ctw_write.proofs.FormedBytes.{value_type_there, direct_there, variant_there, trust_there, table_there, limits_there, memory_there, mutability_there, kind_there, number_there, global_there, prefix_there, secret_there, end_there}
@@ -164,22 +165,22 @@ export_spelled e h lt =
 number_of : (ct : Bool) (width : Width) (label : Label) (bits : ℕ) → FitsWidth width bits → (ct ≡ false → label ≡ Public) → IsConstant ct (constant_text (Number (typed width label) bits)) (Number (typed width label) bits)
 number_of ct width Public bits fits plain = (
   constant.Number width,
-  const_byte width ∷ [],
+  const_opcode width ∷ [],
   bits_text width bits ++ 0x0B ∷ [],
-  (const_byte width, refl, number_there ct width),
+  (const_opcode width, refl, number_there ct width),
   (Number (typed width Public) bits, bits_text width bits, 0x0B ∷ [], (bits, bits_spelled width bits fits, refl), (tt, 0x0B ∷ [], [], (0x0B, refl, end_there ct), (refl, refl), refl), refl),
   refl,
 )
 number_of true width Secret bits fits plain = (
   constant.Prefix,
   0xE0 ∷ [],
-  const_byte width ∷ (bits_text width bits ++ 0x0B ∷ []),
+  const_opcode width ∷ (bits_text width bits ++ 0x0B ∷ []),
   (0xE0, refl, prefix_there),
   (
     Number (typed width Secret) bits,
-    const_byte width ∷ bits_text width bits,
+    const_opcode width ∷ bits_text width bits,
     0x0B ∷ [],
-    (width, const_byte width ∷ [], bits_text width bits, (const_byte width, refl, secret_there width), (bits, bits_spelled width bits fits, refl), refl),
+    (width, const_opcode width ∷ [], bits_text width bits, (const_opcode width, refl, secret_there width), (bits, bits_spelled width bits fits, refl), refl),
     (tt, 0x0B ∷ [], [], (0x0B, refl, end_there true), (refl, refl), refl),
     refl,
   ),

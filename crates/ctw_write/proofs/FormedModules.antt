@@ -11,11 +11,11 @@ use Rattle.ctw_ops.specs.Tree.{Module, Function, Custom}
 use Rattle.ctw_ops.specs.Typing.{optional}
 use Rattle.ctw_ops.specs.Valid.{IsFormed}
 use Rattle.ctw_leb.specs.Spelling.{u32_text}
-use Rattle.ctw_module.specs.declared.table.SectionKind.TheVariants as kind
-use Rattle.ctw_module.specs.declared.sections.Seen.{Seen}
-use Rattle.ctw_module.specs.Sections.{TypeSection, ImportSection, FunctionSection, TableSection, MemorySection, GlobalSection, ExportSection, ElementSection, CodeSection, DataSection, none_held, held_by, nothing_seen, Parts, no_parts, place_after, module_of, first}
-use Rattle.ctw_module.specs.Spelled.{magic, version, file_of, Spells}
-use Rattle.ctw_module.proofs.FileForms.{one_module}
+use Rattle.ctw_form.specs.declared.table.SectionKind.TheVariants as kind
+use Rattle.ctw_form.specs.declared.sections.Seen.{Seen}
+use Rattle.ctw_form.specs.Sections.{TypeSection, ImportSection, FunctionSection, TableSection, MemorySection, GlobalSection, ExportSection, ElementSection, CodeSection, DataSection, none_held, held_by, nothing_seen, Parts, no_parts, place_after, module_of, first}
+use Rattle.ctw_form.specs.Spelled.{magic, version, file_of, Spells}
+use Rattle.ctw_form.proofs.FileForms.{one_module}
 use Rattle.ctw_write.specs.Canon.{type_entry_text, import_text, table_text, memory_text, global_text, export_text, element_text, code_text, segment_text, items_text, start_text, customs_text, placed_text, sections_text, canon}
 use Rattle.ctw_write.specs.KeepsLimits.{Is32, item_counts, IsPlace, KeepsLimits}
 use Rattle.ctw_write.proofs.FormedItems.{first_optional}

@@ -17,7 +17,7 @@ use Rattle.ctw_leb.specs.Vectors.{Vector, Sized, IsByteVector, IsName}
 use Rattle.ctw_leb.specs.Spelling.{u32_text, shortest}
 use Rattle.ctw_leb.proofs.Spelling.{one_more, last_one, u32_minimal, s32_minimal, s64_minimal}
 use Rattle.ctw_flat.specs.Spelled.{IsBits}
-use Rattle.ctw_module.specs.Spelled.{VectorUpto}
+use Rattle.ctw_form.specs.Spelled.{VectorUpto}
 use Rattle.ctw_write.specs.Canon.{all_texts, vector_text, sized_text, bits_text}
 use Rattle.ctw_write.specs.KeepsLimits.{Is32, IsText}
 

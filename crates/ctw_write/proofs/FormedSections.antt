@@ -9,11 +9,11 @@ use Rattle.ctw_ops.specs.Tree.{Module, Custom}
 use Rattle.ctw_leb.specs.Grammar.{Items, state_after}
 use Rattle.ctw_leb.specs.Vectors.{Sized}
 use Rattle.ctw_leb.specs.Spelling.{u32_text}
-use Rattle.ctw_module.specs.declared.table.SectionKind.{SectionKind}
-use Rattle.ctw_module.specs.declared.table.SectionKind.TheVariants as kind
-use Rattle.ctw_module.specs.declared.sections.Seen.{Seen}
-use Rattle.ctw_module.specs.Sections.{Section, CustomSection, StartSection, Parts, no_parts, nothing_seen, seen_after, with_section, place_after}
-use Rattle.ctw_module.specs.Spelled.{Insides, IsSection}
+use Rattle.ctw_form.specs.declared.table.SectionKind.{SectionKind}
+use Rattle.ctw_form.specs.declared.table.SectionKind.TheVariants as kind
+use Rattle.ctw_form.specs.declared.sections.Seen.{Seen}
+use Rattle.ctw_form.specs.Sections.{Section, CustomSection, StartSection, Parts, no_parts, nothing_seen, seen_after, with_section, place_after}
+use Rattle.ctw_form.specs.Spelled.{Insides, IsSection}
 use Rattle.ctw_write.specs.Canon.{all_texts, vector_text, sized_text, section_text, items_text, start_text, custom_text, customs_text, placed_text}
 use Rattle.ctw_write.specs.KeepsLimits.{IsText, IsShort, item_counts, IsLimitedCustom}
 use Rattle.ctw_write.proofs.SectionTexts.{id_of, one_item, items-append, state_after-append}

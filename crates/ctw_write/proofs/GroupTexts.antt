@@ -1,11 +1,13 @@
 -- The canonical texts of code entries are spellings, and no longer than any other: fewest groups have the same locals.
-use Rattle.std.proofs.Common.{◌≡◌, ℕ, zero, suc, ◌+◌, ◌≤◌, ◌<◌, ◌^◌, Bool, true, false, cond, List, [], ◌∷◌, ◌++◌, length, map, replicate, Ok, refl, sym, ap, subst, ◌∙◌, append-nil, arith, leb-true, le-leb, eq-eqb, eqb-true}
+use Rattle.std.proofs.Common.{◌≡◌, ℕ, zero, suc, ◌+◌, ◌≤◌, ◌<◌, ◌^◌, Bool, true, false, cond, List, [], ◌∷◌, ◌++◌, length, map, replicate, Ok, refl, sym, ap, subst, ◌∙◌, append-nil, arith, leb-true, le-leb}
 use Rattle.std.specs.Prelude.{◌==◌}
 use Rattle.std.specs.List.{All}
 use Rattle.std.proofs.lemmas.List.{length-append}
 use Rattle.std.proofs.lemmas.List.Elements.{All-nil, All-cons, All-head, All-tail, All-append, All-replicate}
 use Rattle.ctw_ops.specs.ValueType.{ValueType}
 use Rattle.ctw_ops.specs.Types.{type_byte}
+use Rattle.ctw_ops.specs.Equal.{same_type}
+use Rattle.ctw_ops.proofs.EqualLaws.{same_type_is, same_type_refl}
 use Rattle.ctw_ops.specs.declared.types.Label.{Label}
 use Rattle.ctw_ops.specs.declared.types.Label.TheVariants.{Public, Secret}
 use Rattle.ctw_ops.specs.declared.types.Width.{Width}
@@ -15,15 +17,15 @@ use Rattle.ctw_leb.specs.Numbers.{IsU32}
 use Rattle.ctw_leb.specs.Spelling.{u32_text}
 use Rattle.ctw_leb.proofs.Exact.{ok_is}
 use Rattle.ctw_leb.proofs.Spelling.{u32_minimal}
-use Rattle.ctw_module.specs.declared.fault.FormKind.{FormKind}
+use Rattle.ctw_form.specs.declared.fault.FormKind.{FormKind}
 use Rattle.ctw_ops.specs.Limits.{most_locals, most_locals_of_all}
-use Rattle.ctw_module.specs.Limits.{room_for}
-use Rattle.ctw_module.specs.Tables.{value_type}
-use Rattle.ctw_module.specs.Sections.{Group, Entry, locals_of}
-use Rattle.ctw_module.specs.Spelled.{IsValueType, Count, count_after, group_of, IsGroup, IsGroups, code_entry, IsFormBody, IsEntry, all_after, IsCodes}
-use Rattle.ctw_module.proofs.CodeForms.{EntryInsides}
-use Rattle.ctw_module.proofs.SpelledTrees.{all_times, times_count}
-use Rattle.ctw_write.specs.Canon.{all_texts, vector_text, sized_text, type_text, same_type, local_before, groups_of, group_text, body_text}
+use Rattle.ctw_form.specs.Limits.{room_for}
+use Rattle.ctw_form.specs.Tables.{value_type}
+use Rattle.ctw_form.specs.Sections.{Group, Entry, locals_of}
+use Rattle.ctw_form.specs.Spelled.{IsValueType, Count, count_after, group_of, IsGroup, IsGroups, code_entry, IsFormBody, IsEntry, all_after, IsCodes}
+use Rattle.ctw_form.proofs.CodeForms.{EntryInsides}
+use Rattle.ctw_form.proofs.SpelledParts.{all_times, times_count}
+use Rattle.ctw_write.specs.Canon.{all_texts, vector_text, sized_text, type_text, local_before, groups_of, group_text, body_text}
 use Rattle.ctw_write.proofs.Settling.{Settles, settles_then, settles_mapped, settles_passing, settles_times, settles_number, short_total, short_number, sized_short}
 use Rattle.ctw_write.proofs.BytesOf.{value_type_byte}
 use Rattle.ctw_write.proofs.ItemTexts.{settles_type}
@@ -44,12 +46,6 @@ typed_byte t = go t.width t.tag
 pub same_byte : (t u : ValueType Label) → type_byte t ≡ type_byte u → t ≡ u
 same_byte t u e = ok_is {F = FormKind} t u (sym (typed_byte t) ∙ ap (value_type true) e ∙ typed_byte u)
 
-same_itself : (t : ValueType Label) → same_type t t ≡ true
-same_itself t = eq-eqb (type_byte t) (type_byte t) refl
-
-pub same_is : (t u : ValueType Label) → same_type t u ≡ true → t ≡ u
-same_is t u e = same_byte t u (eqb-true (type_byte t) (type_byte u) e)
-
 -- ---- the fewest groups
 
 -- so many locals and one more in front of groups
@@ -64,7 +60,7 @@ grown_first t (g ∷ groups) =
     ap (λ (n : ℕ). cond (same_type t g.type) (record { count = n; type = g.type } ∷ groups) (record { count = 1; type = t } ∷ g ∷ groups)) e
 
 grown_more : (n : ℕ) (t : ValueType Label) (groups : List Group) → local_before t (grown n t groups) ≡ grown (suc n) t groups
-grown_more n t [] = rw (same_itself t) refl
+grown_more n t [] = rw (same_type_refl t) refl
 grown_more n t (g ∷ groups) = go (same_type t g.type) refl
   where
     go : (test : Bool) → same_type t g.type ≡ test
@@ -73,7 +69,7 @@ grown_more n t (g ∷ groups) = go (same_type t g.type) refl
     go true e =
         let sum : suc (suc n + g.count) ≡ suc (suc n) + g.count = omega arith in
         rw e (ap (λ (k : ℕ). record { count = k; type = g.type } ∷ groups) sum)
-    go false e = rw (same_itself t) refl
+    go false e = rw (same_type_refl t) refl
 
 -- equal locals in front of others
 pub grown_is : (n : ℕ) (t : ValueType Label) (types : List (ValueType Label)) → groups_of (replicate (suc n) t ++ types) ≡ grown n t (groups_of types)
@@ -86,7 +82,7 @@ locals_before t (g ∷ groups) = go (same_type t g.type) refl
   where
     go : (test : Bool) → same_type t g.type ≡ test
         → locals_of (cond test (record { count = suc g.count; type = g.type } ∷ groups) (record { count = 1; type = t } ∷ g ∷ groups)) ≡ t ∷ locals_of (g ∷ groups)
-    go true e = ap (λ (u : ValueType Label). u ∷ locals_of (g ∷ groups)) (sym (same_is t g.type e))
+    go true e = ap (λ (u : ValueType Label). u ∷ locals_of (g ∷ groups)) (sym (same_type_is t g.type e))
     go false e = refl
 
 -- the groups are of these locals

@@ -17,18 +17,19 @@ use Rattle.ctw_leb.specs.Numbers.{IsU32}
 use Rattle.ctw_leb.specs.Vectors.{Vector, IsByteVector, IsName}
 use Rattle.ctw_leb.specs.Spelling.{u32_text}
 use Rattle.ctw_flat.specs.Spelled.{IsBits}
-use Rattle.ctw_module.specs.declared.table.EntryForm.{EntryForm}
-use Rattle.ctw_module.specs.declared.table.EntryForm.TheVariants as entry
-use Rattle.ctw_module.specs.declared.table.ConstantForm.{ConstantForm}
-use Rattle.ctw_module.specs.declared.table.ConstantForm.TheVariants as constant
-use Rattle.ctw_module.specs.declared.table.Held.{Held}
+use Rattle.ctw_form.specs.declared.table.EntryForm.{EntryForm}
+use Rattle.ctw_form.specs.declared.table.EntryForm.TheVariants as entry
+use Rattle.ctw_form.specs.declared.table.ConstantForm.{ConstantForm}
+use Rattle.ctw_form.specs.declared.table.ConstantForm.TheVariants as constant
+use Rattle.ctw_form.specs.declared.table.Held.{Held}
 use Rattle.ctw_ops.specs.Limits.{most_params, most_results}
-use Rattle.ctw_module.specs.Tables.{value_type, entry_form, trust_byte, table_byte, limits_form, memory_form, mutability, extern_kind, import_kind, constant_form, secret_constant, constant_end}
-use Rattle.ctw_module.specs.Sections.{first}
-use Rattle.ctw_module.specs.Spelled.{VectorUpto, IsValueType, IsSignature, entry_of, EntryBehind, IsTypeEntry, unbounded, bounded, Sizes, IsTable, memory_type, IsMemory, variable_type, IsVariable, IsExtern, import_of, IsImport, export_of, IsExport, IsNumber, ConstantBehind, IsConstant, global_of, IsGlobal, element_of, IsElement, segment_of, IsSegment}
-use Rattle.ctw_module.proofs.SpelledTrees.{times_count}
+use Rattle.ctw_form.specs.Tables.{value_type, entry_form, trust_byte, table_byte, limits_form, memory_form, mutability, extern_kind, import_kind, constant_form, secret_constant, constant_end}
+use Rattle.ctw_form.specs.Sections.{first}
+use Rattle.ctw_form.specs.Spelled.{VectorUpto, IsValueType, IsSignature, entry_of, EntryBehind, IsTypeEntry, unbounded, bounded, Sizes, IsTable, memory_type, IsMemory, variable_type, IsVariable, IsExtern, import_of, IsImport, export_of, IsExport, IsNumber, ConstantBehind, IsConstant, global_of, IsGlobal, element_of, IsElement, segment_of, IsSegment}
+use Rattle.ctw_form.proofs.SpelledParts.{times_count}
 use Rattle.ctw_write.specs.Canon as write
-use Rattle.ctw_write.specs.Canon.{all_texts, vector_text, sized_text, type_text, signature_text, type_entry_text, limits_text, table_text, memory_text, mutable_byte, variable_text, extern_text, import_text, kind_byte, export_text, in_form, bits_text, const_byte, block_type_byte, leaf_text, op_text, constant_text, global_text, element_text, segment_text}
+use Rattle.ctw_flat.specs.Opcodes.{const_opcode}
+use Rattle.ctw_write.specs.Canon.{all_texts, vector_text, sized_text, type_text, signature_text, type_entry_text, limits_text, table_text, memory_text, mutable_byte, variable_text, extern_text, import_text, kind_byte, export_text, in_form, bits_text, block_type_byte, leaf_text, op_text, constant_text, global_text, element_text, segment_text}
 use Rattle.ctw_write.proofs.Settling.{Settles, settles_just, settles_then, settles_where, settles_seen, settles_mapped, settles_same, settles_as, settles_byte, settles_number, settles_bits, settles_vector, settles_upto, settles_byte_vector, settles_name}
 use Rattle.ctw_write.proofs.BytesOf.{value_type_byte, entry_form_byte, entry_form_is, trust_is, table_is, bound_byte, limits_is, memory_byte, memory_is, mutability_is, kind_is, import_is, constant_byte, constant_is, secret_constant_is, constant_end_is}
 
@@ -134,11 +135,11 @@ open_constant (Number t bits) = leaf_text (ops.Const t.width t.tag bits)
 open_constant (ValueOf global) = leaf_text (ops.GlobalGet global)
 
 settles_open : (f : ConstantForm) → Settles (constant_byte f ∷ []) (ConstantBehind f) open_constant
-settles_open (constant.Number width) = settles_mapped (const_byte width ∷ []) (Number (typed width Public)) (IsBits width) (bits_text width) open_constant (settles_bits width) (λ bits. refl)
+settles_open (constant.Number width) = settles_mapped (const_opcode width ∷ []) (Number (typed width Public)) (IsBits width) (bits_text width) open_constant (settles_bits width) (λ bits. refl)
 settles_open constant.Global = settles_mapped (0x23 ∷ []) ValueOf IsU32 u32_text open_constant settles_number (λ global. refl)
 settles_open constant.Prefix =
-    settles_then (0xE0 ∷ []) (OneOf secret_constant) (IsNumber Secret) (λ width. const_byte width ∷ []) open_constant (settles_byte secret_constant const_byte secret_constant_is) (λ width.
-    settles_mapped (0xE0 ∷ const_byte width ∷ []) (Number (typed width Secret)) (IsBits width) (bits_text width) open_constant (settles_bits width) (λ bits. refl))
+    settles_then (0xE0 ∷ []) (OneOf secret_constant) (IsNumber Secret) (λ width. const_opcode width ∷ []) open_constant (settles_byte secret_constant const_opcode secret_constant_is) (λ width.
+    settles_mapped (0xE0 ∷ const_opcode width ∷ []) (Number (typed width Secret)) (IsBits width) (bits_text width) open_constant (settles_bits width) (λ bits. refl))
 
 settles_ended : {A : Type 0} (ct : Bool) (before : List ℕ) (G : Grammar A) (w : A → List ℕ) → Settles before G w → Settles before (G >>= λ value. OneOf (constant_end ct) >>= λ u. Just value) (λ a. w a ++ 0x0B ∷ [])
 settles_ended {A} ct before G w g = record {

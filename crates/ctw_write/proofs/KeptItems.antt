@@ -32,15 +32,15 @@ use Rattle.ctw_flat.specs.declared.opcode.First.TheVariants.{Direct, Prefix}
 use Rattle.ctw_flat.specs.Opcodes as code
 use Rattle.ctw_flat.specs.Opcodes.{control_form, variable_form, labelling_form, opcode, direct, has_secret_form, if_secret, secret_form}
 use Rattle.ctw_flat.specs.Spelled.{bare_op, indexed_leaf, Immediate, Behind, IsOp, IsOps, height}
-use Rattle.ctw_module.specs.declared.table.EntryForm.{EntryForm}
-use Rattle.ctw_module.specs.declared.table.EntryForm.TheVariants.{Direct as DirectEntry, Variant}
-use Rattle.ctw_module.specs.declared.table.ConstantForm.{ConstantForm}
-use Rattle.ctw_module.specs.declared.table.ConstantForm.TheVariants as constant
-use Rattle.ctw_module.specs.declared.table.Held.{Held}
-use Rattle.ctw_module.specs.Sections.{Entry, locals_of}
-use Rattle.ctw_module.specs.Spelled.{IsValueType, IsSignature, EntryBehind, IsTypeEntry, Sizes, IsTable, IsMemory, IsExtern, IsImport, IsExport, ConstantBehind, IsConstant, IsGlobal, IsElement, IsSegment, IsEntry, all_after}
-use Rattle.ctw_module.proofs.Fitted.{bits_fit}
-use Rattle.ctw_module.proofs.SpelledTrees.{all_vector}
+use Rattle.ctw_form.specs.declared.table.EntryForm.{EntryForm}
+use Rattle.ctw_form.specs.declared.table.EntryForm.TheVariants.{Direct as DirectEntry, Variant}
+use Rattle.ctw_form.specs.declared.table.ConstantForm.{ConstantForm}
+use Rattle.ctw_form.specs.declared.table.ConstantForm.TheVariants as constant
+use Rattle.ctw_form.specs.declared.table.Held.{Held}
+use Rattle.ctw_form.specs.Sections.{Entry, locals_of}
+use Rattle.ctw_form.specs.Spelled.{IsValueType, IsSignature, EntryBehind, IsTypeEntry, Sizes, IsTable, IsMemory, IsExtern, IsImport, IsExport, ConstantBehind, IsConstant, IsGlobal, IsElement, IsSegment, IsEntry, all_after}
+use Rattle.ctw_form.proofs.Fitted.{bits_fit}
+use Rattle.ctw_form.proofs.SpelledParts.{all_vector}
 use Rattle.ctw_write.specs.KeepsLimits.{Is32, AreSizes, IsLimitedLeaf, IsLimitedOp, IsLimitedEntry, IsLimitedExtern, IsLimitedImport, IsLimitedExport, IsLimitedConstant, IsLimitedElement, IsLimitedSegment}
 use Rattle.ctw_write.proofs.Settling.{u32_fits}
 use Rattle.ctw_write.proofs.ItemTexts.{upto_count}

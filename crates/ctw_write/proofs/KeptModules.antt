@@ -13,12 +13,12 @@ use Rattle.ctw_ops.specs.Tree.{Module, Function, Custom}
 use Rattle.ctw_ops.specs.Typing.{optional}
 use Rattle.ctw_leb.specs.Grammar.{state_after}
 use Rattle.ctw_leb.specs.Spelling.{u32_text}
-use Rattle.ctw_module.specs.declared.table.SectionKind.{SectionKind}
-use Rattle.ctw_module.specs.declared.table.SectionKind.TheVariants as kind
-use Rattle.ctw_module.specs.declared.sections.Seen.{Seen}
-use Rattle.ctw_module.specs.Sections.{Entry, Section, Parts, nothing_seen, seen_after, no_parts, with_section, place_after, first, locals_of, functions_of, module_of}
-use Rattle.ctw_module.specs.Spelled.{Insides, IsSection, File, IsFile, Spells}
-use Rattle.ctw_module.proofs.SpelledTrees.{parts_kept, file_filled}
+use Rattle.ctw_form.specs.declared.table.SectionKind.{SectionKind}
+use Rattle.ctw_form.specs.declared.table.SectionKind.TheVariants as kind
+use Rattle.ctw_form.specs.declared.sections.Seen.{Seen}
+use Rattle.ctw_form.specs.Sections.{Entry, Section, Parts, nothing_seen, seen_after, no_parts, with_section, place_after, first, locals_of, functions_of, module_of}
+use Rattle.ctw_form.specs.Spelled.{Insides, IsSection, File, IsFile, Spells}
+use Rattle.ctw_form.proofs.SpelledParts.{parts_kept, file_filled}
 use Rattle.ctw_write.specs.Canon.{all_texts, vector_text, code_text, canon}
 use Rattle.ctw_write.specs.KeepsLimits.{Is32, IsShort, AreSizes, IsLimitedFunction, item_counts, contents, KeepsLimits}
 use Rattle.ctw_write.proofs.GroupTexts.{entry_text}

@@ -13,12 +13,12 @@ use Rattle.ctw_leb.specs.Grammar.{Grammar, state_after}
 use Rattle.ctw_leb.specs.Numbers.{IsU32}
 use Rattle.ctw_leb.specs.Vectors.{Vector}
 use Rattle.ctw_leb.specs.Spelling.{u32_text, shortest}
-use Rattle.ctw_module.specs.declared.table.SectionKind.{SectionKind}
-use Rattle.ctw_module.specs.declared.table.SectionKind.TheVariants as kind
-use Rattle.ctw_module.specs.declared.sections.Seen.{Seen}
-use Rattle.ctw_module.specs.Sections.{Section, Parts, none_held, held_after, nothing_seen, no_parts, with_section, first}
-use Rattle.ctw_module.specs.Spelled.{VectorUpto, IsTypeEntry, IsImport, IsTable, IsMemory, IsGlobal, IsExport, IsElement, IsSegment, IsEntry, IsImports, all_after, room, Insides, IsSection, File, IsFile}
-use Rattle.ctw_module.proofs.SpelledTrees.{all_times, all_vector, all_vector_upto, parts_kept}
+use Rattle.ctw_form.specs.declared.table.SectionKind.{SectionKind}
+use Rattle.ctw_form.specs.declared.table.SectionKind.TheVariants as kind
+use Rattle.ctw_form.specs.declared.sections.Seen.{Seen}
+use Rattle.ctw_form.specs.Sections.{Section, Parts, none_held, held_after, nothing_seen, no_parts, with_section, first}
+use Rattle.ctw_form.specs.Spelled.{VectorUpto, IsTypeEntry, IsImport, IsTable, IsMemory, IsGlobal, IsExport, IsElement, IsSegment, IsEntry, IsImports, all_after, room, Insides, IsSection, File, IsFile}
+use Rattle.ctw_form.proofs.SpelledParts.{all_times, all_vector, all_vector_upto, parts_kept}
 use Rattle.ctw_write.specs.Canon.{vector_text, sized_text, type_entry_text, import_text, table_text, memory_text, global_text, export_text, element_text, segment_text}
 use Rattle.ctw_write.specs.KeepsLimits.{Is32, IsText, IsShort, AreSizes, IsLimitedEntry, IsLimitedImport, IsLimitedConstant, IsLimitedExport, IsLimitedElement, IsLimitedSegment}
 use Rattle.ctw_write.proofs.Settling.{Settles, settles_number, settles_vector, settles_upto, settles_name, u32_fits}

@@ -7,7 +7,6 @@ pub mod Pieces
 pub mod SectionTexts
 pub mod CanonicalText
 pub mod Walked
-pub mod Counting
 pub mod Listed
 pub mod Shorter
 pub mod Shown

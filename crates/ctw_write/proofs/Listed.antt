@@ -1,21 +1,16 @@
 -- Texts of the items of a list, written one after another.
-use Rattle.std.proofs.Common.{◌≡◌, ℕ, zero, suc, ◌+◌, ◌<◌, ◌≤◌, Bool, true, false, List, [], ◌∷◌, ◌++◌, length, take, Option, Some, None, refl, sym, ap, subst, ◌∙◌, append_assoc, append-nil, arith, length-append, eqb-true, inl, inr}
+use Rattle.std.proofs.Common.{◌≡◌, ℕ, zero, suc, ◌+◌, ◌<◌, ◌≤◌, Bool, true, false, List, [], ◌∷◌, ◌++◌, length, take, Option, Some, None, refl, sym, ap, subst, ◌∙◌, append_assoc, append-nil, arith, length-append}
 use Rattle.std.specs.Prelude.{slice_get, IsTrue, ◌==◌, cond, filter}
 use Rattle.std.specs.List.{All, list_all}
 use Rattle.std.proofs.lemmas.List.{take_all}
 use Rattle.std.proofs.lemmas.List.Elements.{All-head, All-tail}
 use Rattle.std.proofs.lemmas.Option.{slice_get_within}
-use Rattle.ctw_ops.specs.ValueType.{ValueType}
-use Rattle.ctw_ops.specs.declared.types.Label.{Label}
-use Rattle.ctw_ops.specs.Types.{value_type, type_byte, byte_type, byte_types, is_type_byte}
-use Rattle.ctw_ops.specs.declared.types.Label.TheVariants.{Public, Secret}
-use Rattle.ctw_ops.specs.declared.types.Width.TheVariants.{W32, W64}
-use Rattle.ctw_leb.proofs.Exact.{chosen}
+use Rattle.ctw_ops.specs.Types.{type_byte, byte_types, is_type_byte}
 use Rattle.ctw_ops.specs.Tree.{Custom}
 use Rattle.ctw_write.proofs.Pieces.{one_more_custom}
-use Rattle.ctw_write.proofs.Counting.{take_next}
 use Rattle.ctw_leb.specs.Spelling.{u32_text}
-use Rattle.ctw_module.proofs.Params.{typed, types_length}
+use Rattle.ctw_flat.proofs.TypeBytes.{type_is}
+use Rattle.ctw_form.proofs.Params.{typed, types_length}
 use Rattle.ctw_write.specs.Canon.{all_texts, vector_text, sized_text, type_text, section_text, items_text, custom_text, customs_text}
 
 -- ---- lists
@@ -28,6 +23,11 @@ some_is x y e = cc
 
 none_some : {A : Type 0} (x : A) → None ≡ some x → ⊥
 none_some x e = cc
+
+pub take_next : {A : Type 0} (l : List A) (i : ℕ) (a : A) → slice_get l i ≡ Some a → take (suc i) l ≡ take i l ++ a ∷ []
+take_next [] i a e = absurd (none_some a e)
+take_next (b ∷ l) zero a e = ap (λ x. x ∷ []) (some_is b a e)
+take_next (b ∷ l) (suc i) a e = ap (λ x. b ∷ x) (take_next l i a e)
 
 -- the first items of a list are written behind a text
 pub record Listed {A : Type 0} (w : A → List ℕ) (items : List A) (i : ℕ) (start written : List ℕ) : Type 0 where
@@ -69,30 +69,11 @@ items_none id w (a ∷ others) e = absurd (omega (arith, e))
 
 -- ---- bytes of types
 
-type_here : (byte n : ℕ) (u t : ValueType Label) → type_byte u ≡ n → (byte == n) ≡ true → some u ≡ some t → type_byte t ≡ byte
-type_here byte n u t w e q = ap type_byte (sym (some_is u t q)) ∙ w ∙ sym (eqb-true byte n e)
-
-type_of_byte : (byte : ℕ) (t : ValueType Label) → byte_type byte ≡ Some t → type_byte t ≡ byte
-type_of_byte byte t e =
-    elim (chosen (byte == 0x7F) (Some (value_type W32 Public)) _ (Some t) e) [
-      | inl p ↦ type_here byte 0x7F (value_type W32 Public) t refl p.0 p.1
-      | inr p ↦ elim (chosen (byte == 0x7E) (Some (value_type W64 Public)) _ (Some t) p.1) [
-        | inl q ↦ type_here byte 0x7E (value_type W64 Public) t refl q.0 q.1
-        | inr q ↦ elim (chosen (byte == 0x7A) (Some (value_type W32 Secret)) _ (Some t) q.1) [
-          | inl r ↦ type_here byte 0x7A (value_type W32 Secret) t refl r.0 r.1
-          | inr r ↦ elim (chosen (byte == 0x79) (Some (value_type W64 Secret)) None (Some t) r.1) [
-            | inl s ↦ type_here byte 0x79 (value_type W64 Secret) t refl s.0 s.1
-            | inr s ↦ absurd (none_some t s.1)
-          ]
-        ]
-      ]
-    ]
-
 params_text : (bytes : List ℕ) → IsTrue (list_all is_type_byte bytes) → all_texts type_text (byte_types bytes) ≡ bytes
 params_text [] h = refl
 params_text (b ∷ bytes) h =
     let t = typed b bytes h in
-    rw t.first (ap (λ (l : List ℕ). type_byte t.type ∷ l) (params_text bytes t.others) ∙ ap (λ (n : ℕ). n ∷ bytes) (type_of_byte b t.type t.first))
+    rw t.first (ap (λ (l : List ℕ). type_byte t.type ∷ l) (params_text bytes t.others) ∙ ap (λ (n : ℕ). n ∷ bytes) (type_is b t.type t.first))
 
 -- the bytes of types behind their count
 pub params_sized : (bytes : List ℕ) → IsTrue (list_all is_type_byte bytes) → sized_text bytes ≡ vector_text type_text (byte_types bytes)

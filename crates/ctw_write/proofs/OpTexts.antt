@@ -1,5 +1,6 @@
 -- The canonical texts of opcodes and bodies are spellings, and no longer than any other.
-use Rattle.std.proofs.Common.{◌≡◌, ℕ, Bool, true, [], ◌∷◌, refl, sym, true≢false}
+use Rattle.std.proofs.Common.{◌≡◌, ℕ, Bool, true, [], ◌∷◌, Option, refl, sym, true≢false}
+use Rattle.ctw_ops.specs.ValueType.{ValueType}
 use Rattle.ctw_ops.specs.declared.types.Label.{Label}
 use Rattle.ctw_ops.specs.declared.types.Label.TheVariants.{Public, Secret}
 use Rattle.ctw_ops.specs.Code as ops
@@ -10,6 +11,8 @@ use Rattle.ctw_leb.specs.Vectors.{Vector}
 use Rattle.ctw_leb.specs.Spelling.{u32_text}
 use Rattle.ctw_flat.specs.declared.opcode.Bare.{Bare}
 use Rattle.ctw_flat.specs.declared.opcode.Bare.TheVariants as bare
+use Rattle.ctw_flat.specs.declared.opcode.Opener.{Opener}
+use Rattle.ctw_flat.specs.declared.opcode.Opener.TheVariants as opener
 use Rattle.ctw_flat.specs.declared.opcode.Indexed.{Indexed}
 use Rattle.ctw_flat.specs.declared.opcode.Indexed.TheVariants as indexed
 use Rattle.ctw_flat.specs.declared.opcode.Access.TheVariants as access
@@ -17,16 +20,17 @@ use Rattle.ctw_flat.specs.declared.opcode.Form.{Form}
 use Rattle.ctw_flat.specs.declared.opcode.Form.TheVariants as form
 use Rattle.ctw_flat.specs.declared.opcode.First.{First}
 use Rattle.ctw_flat.specs.declared.opcode.First.TheVariants.{Direct, Prefix}
-use Rattle.ctw_flat.specs.Opcodes.{opcode, has_secret_form, secret_form, block_type, reserved}
+use Rattle.ctw_flat.specs.Opcodes.{opcode, has_secret_form, secret_form, block_type, reserved, opcode_byte}
 use Rattle.ctw_flat.specs.Spelled.{bare_op, shape_of, indexed_leaf, Immediate, Behind, IsOp, IsBits}
-use Rattle.ctw_module.specs.Spelled.{IsFormBody}
-use Rattle.ctw_write.specs.Canon.{vector_text, in_form, bits_text, shape_byte, block_type_byte, op_text, body_text}
+use Rattle.ctw_form.specs.Spelled.{IsFormBody}
+use Rattle.ctw_write.specs.Canon.{vector_text, in_form, bits_text, block_type_byte, op_text, body_text}
 use Rattle.ctw_write.proofs.Settling.{Settles, settles_just, settles_then, settles_where, settles_byte, settles_items, settles_number, settles_bits, settles_vector}
-use Rattle.ctw_write.proofs.BytesOf.{form_byte, first_byte, opcode_is, secret_is, block_is, reserved_is}
+use Rattle.ctw_flat.proofs.OpcodeBytes.{secret_is}
+use Rattle.ctw_write.proofs.BytesOf.{first_byte, opcode_is, block_is, reserved_is}
 
 -- ---- what has a secret form too
 
-settles_both : (label : Label) (f : Form) → has_secret_form f ≡ true → Settles (in_form label (form_byte f ∷ [])) (Immediate label f) op_text
+settles_both : (label : Label) (f : Form) → has_secret_form f ≡ true → Settles (in_form label (opcode_byte f ∷ [])) (Immediate label f) op_text
 settles_both Public form.Select e = settles_just _ (Plain (ops.Select Public)) op_text refl
 settles_both Secret form.Select e = settles_just _ (Plain (ops.Select Secret)) op_text refl
 settles_both Public (form.Access (access.Load width bytes signed)) e =
@@ -59,7 +63,7 @@ settles_both label form.MemoryGrow e = absurd (true≢false (sym e))
 
 -- ---- the others
 
-bare_written : (b : Bare) → op_text (bare_op b) ≡ form_byte (form.Bare b) ∷ []
+bare_written : (b : Bare) → op_text (bare_op b) ≡ opcode_byte (form.Bare b) ∷ []
 bare_written bare.Unreachable = refl
 bare_written bare.Nop = refl
 bare_written bare.Else = refl
@@ -69,7 +73,7 @@ bare_written bare.Drop = refl
 bare_written (bare.Classify width) = refl
 bare_written (bare.Declassify width) = refl
 
-indexed_written : (x : Indexed) (n : ℕ) → op_text (Plain (indexed_leaf x n)) ≡ form_byte (form.Indexed x) ∷ u32_text n
+indexed_written : (x : Indexed) (n : ℕ) → op_text (Plain (indexed_leaf x n)) ≡ opcode_byte (form.Indexed x) ∷ u32_text n
 indexed_written indexed.Br n = refl
 indexed_written indexed.BrIf n = refl
 indexed_written indexed.Call n = refl
@@ -82,11 +86,16 @@ indexed_written indexed.GlobalSet n = refl
 settles_reserved : (byte : ℕ) (op : Op Label) → op_text op ≡ byte ∷ 0x00 ∷ [] → Settles (byte ∷ []) (OneOf reserved >>= λ zero_byte. Just op) op_text
 settles_reserved byte op e = settles_then (byte ∷ []) (OneOf reserved) _ (λ u. 0x00 ∷ []) op_text (settles_byte reserved (λ u. 0x00) reserved_is) (λ u. settles_just _ op op_text e)
 
-settles_immediate : (f : Form) → Settles (form_byte f ∷ []) (Immediate Public f) op_text
+opens_written : (o : Opener) (t : Option (ValueType Label)) → op_text (ops.Opens (shape_of o) t) ≡ opcode_byte (form.Opens o) ∷ block_type_byte t ∷ []
+opens_written opener.Block t = refl
+opens_written opener.Loop t = refl
+opens_written opener.If t = refl
+
+settles_immediate : (f : Form) → Settles (opcode_byte f ∷ []) (Immediate Public f) op_text
 settles_immediate (form.Bare b) = settles_just _ (bare_op b) op_text (bare_written b)
 settles_immediate (form.Opens o) =
-    settles_then (shape_byte (shape_of o) ∷ []) (OneOf block_type) _ (λ t. block_type_byte t ∷ []) op_text (settles_byte block_type block_type_byte block_is) (λ t.
-    settles_just _ (ops.Opens (shape_of o) t) op_text refl)
+    settles_then (opcode_byte (form.Opens o) ∷ []) (OneOf block_type) _ (λ t. block_type_byte t ∷ []) op_text (settles_byte block_type block_type_byte block_is) (λ t.
+    settles_just _ (ops.Opens (shape_of o) t) op_text (opens_written o t))
 settles_immediate (form.Indexed x) = settles_then _ IsU32 _ u32_text op_text settles_number (λ n. settles_just _ (Plain (indexed_leaf x n)) op_text (indexed_written x n))
 settles_immediate form.BrTable =
     settles_then (0x0E ∷ []) (Vector IsU32) _ (vector_text u32_text) op_text (settles_vector IsU32 u32_text settles_number) (λ targets.
@@ -104,8 +113,8 @@ settles_immediate (form.Numeric op) = settles_both Public (form.Numeric op) refl
 
 settles_first : (first : First) → Settles (first_byte first ∷ []) (Behind first) op_text
 settles_first Prefix =
-    settles_where (λ f. has_secret_form f ≡ true) (0xE0 ∷ []) (OneOf secret_form) (Immediate Secret) (λ f. form_byte f ∷ []) op_text (λ text f m. (secret_is m.0 f m.2).1)
-    (settles_byte secret_form form_byte (λ b f e. (secret_is b f e).0)) (settles_both Secret)
+    settles_where (λ f. has_secret_form f ≡ true) (0xE0 ∷ []) (OneOf secret_form) (Immediate Secret) (λ f. opcode_byte f ∷ []) op_text (λ text f m. (secret_is m.0 f m.2).1)
+    (settles_byte secret_form opcode_byte (λ b f e. (secret_is b f e).2)) (settles_both Secret)
 settles_first (Direct f) = settles_immediate f
 
 pub settles_op : Settles [] IsOp op_text

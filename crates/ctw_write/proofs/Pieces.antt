@@ -7,7 +7,7 @@ use Rattle.std.proofs.lemmas.List.Elements.{filter-append, All-nil, All-cons, Al
 use Rattle.ctw_ops.specs.Tree.{Custom}
 use Rattle.ctw_ops.specs.Typing.{optional}
 use Rattle.ctw_leb.specs.Spelling.{u32_text}
-use Rattle.ctw_module.specs.Sections.{Parts}
+use Rattle.ctw_form.specs.Sections.{Parts}
 use Rattle.ctw_write.specs.Canon.{all_texts, type_entry_text, import_text, table_text, memory_text, global_text, export_text, start_text, element_text, segment_text, items_text, custom_text, customs_text, placed_text}
 use Rattle.ctw_write.proofs.GroupTexts.{entry_text}
 

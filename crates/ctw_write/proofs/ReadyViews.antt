@@ -1,47 +1,24 @@
 -- A view is ready to be written canonically, and its sections together are the canonical spelling.
-use Rattle.std.proofs.Common.{◌≡◌, ℕ, ◌<◌, ◌≤◌, ◌^◌, Bool, List, [], ◌∷◌, ◌++◌, length, sym, ap, subst, ◌∙◌, append_assoc, arith}
+use Rattle.std.proofs.Common.{◌≡◌, ℕ, ◌<◌, ◌^◌, Bool, List, [], ◌++◌, length, sym, ap, subst, ◌∙◌, append_assoc}
 use Rattle.ctw_ops.specs.declared.types.Label.{Label}
-use Rattle.ctw_ops.specs.Tree.{Module, Element}
+use Rattle.ctw_ops.specs.Tree.{Module}
 use Rattle.ctw_ops.specs.Typing.{optional}
 use Rattle.ctw_leb.specs.Spelling.{u32_text}
-use Rattle.ctw_module.specs.Spelled.{magic, version, Spells}
-use Rattle.ctw_module.specs.Trees.{Lent, tree, parts}
-use Rattle.ctw_module.proofs.Weights.{weight}
-use Rattle.ctw_module.proofs.Brought.{heft}
-use Rattle.ctw_module.proofs.Known.{known}
+use Rattle.ctw_form.specs.Spelled.{magic, version, Spells}
+use Rattle.ctw_module.specs.Trees.{Lent, tree}
 use Rattle.ctw_module.proofs.SpelledTrees.{tree_is}
 use Rattle.ctw_write.specs.Canon.{type_entry_text, import_text, table_text, memory_text, global_text, export_text, element_text, segment_text, code_text, items_text, start_text, customs_text, placed_text, sections_text, canon}
 use Rattle.ctw_write.specs.Ready.{IsReady}
 use Rattle.ctw_write.proofs.CanonicalText.{canonical_spelled}
-use Rattle.ctw_module.proofs.Fitted.{constants_fit}
+use Rattle.ctw_form.proofs.Fitted.{constants_fit}
 use Rattle.ctw_write.proofs.Shorter.{view_short}
-
--- counts of what has no count in a view
-record Few (m : Module Label) (size : ℕ) : Type 0 where
-  elements : length m.elements ≤ size
-  segments : length m.segments ≤ size
-  customs : length m.customs ≤ size
-
-weight_length : (l : List (Element Label)) → length l ≤ weight heft l
-weight_length [] = omega arith
-weight_length (e ∷ l) = omega (arith, weight_length l)
-
-few : (lent : Lent) → Spells lent.bytes (tree lent) → Few (tree lent) (length lent.bytes)
-unfolding tree parts
-few lent s =
-    let k = known lent (tree lent) s in
-    record { elements = omega (arith, k.size, weight_length (parts lent).elements); segments = omega (arith, k.size); customs = omega (arith, k.size) }
 
 pub ready : (lent : Lent) → Spells lent.bytes (tree lent) → length lent.bytes < 2 ^ 32 → IsReady lent
 ready lent s lt =
-    let f = few lent s in
     let c = constants_fit lent.bytes (tree lent) s in
     record {
       spelled = s;
       short = view_short lent.bytes (tree lent) s lt;
-      elements = omega (arith, f.elements);
-      segments = omega (arith, f.segments);
-      customs = omega (arith, f.customs);
       global_constants = c.globals;
       element_offsets = c.elements;
       segment_offsets = c.segments;

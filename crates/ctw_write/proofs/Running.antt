@@ -1,5 +1,5 @@
 -- Runs of equal locals, one local more.
-use Rattle.std.proofs.Common.{◌≡◌, ℕ, zero, suc, ◌+◌, ◌<◌, ◌≤◌, Bool, true, false, cond, List, [], ◌∷◌, ◌++◌, length, replicate, drop, map, ◌-◌, ◌^◌, Option, Some, None, inl, inr, le-ltb, refl, sym, ap, subst, ◌∙◌, append_assoc, append-nil, arith, ne_eqb}
+use Rattle.std.proofs.Common.{◌≡◌, ℕ, zero, suc, ◌+◌, ◌<◌, ◌≤◌, Bool, true, false, cond, List, [], ◌∷◌, ◌++◌, length, replicate, drop, map, ◌-◌, ◌^◌, Option, Some, None, inl, inr, le-ltb, refl, sym, ap, subst, ◌∙◌, append_assoc, append-nil, arith}
 use Rattle.ctw_ops.specs.ValueType.{ValueType}
 use Rattle.std.specs.Prelude.{slice_get, unwrap_or, nat_lt}
 use Rattle.std.proofs.lemmas.Option.{slice_get_within, slice_get_past}
@@ -10,20 +10,20 @@ use Rattle.ctw_ops.specs.Types.{FunctionType}
 use Rattle.ctw_leb.proofs.Exact.{chosen}
 use Rattle.ctw_module.specs.Lookup.{imported_count, function_named, locals_named}
 use Rattle.ctw_module.proofs.Functions.{named_low}
-use Rattle.ctw_write.specs.declared.imports.Imported.{Imported}
-use Rattle.ctw_write.specs.Counts.{IsCountOf}
 use Rattle.ctw_write.proofs.Listed.{item_there}
 use Rattle.ctw_write.proofs.Shorter.{section_short, item_short}
 use Rattle.ctw_module.proofs.LocalTypes.{locals_are}
-use Rattle.ctw_module.proofs.Params.{slice_get_right}
+use Rattle.ctw_form.proofs.Params.{slice_get_right}
 use Rattle.ctw_write.proofs.Shown.{some_is, none_some, entry_short}
 use Rattle.ctw_ops.specs.Types.{type_byte}
-use Rattle.ctw_module.specs.Sections.{Group}
-use Rattle.ctw_module.specs.Spelled.{group_of}
+use Rattle.ctw_ops.specs.Equal.{same_type}
+use Rattle.ctw_ops.proofs.EqualLaws.{same_type_is, same_type_differs}
+use Rattle.ctw_form.specs.Sections.{Group}
+use Rattle.ctw_form.specs.Spelled.{group_of}
 use Rattle.ctw_write.specs.declared.entry.Run.{Run}
-use Rattle.ctw_write.specs.Canon.{all_texts, same_type, local_before, groups_of, group_text, type_entry_text, canon}
+use Rattle.ctw_write.specs.Canon.{all_texts, local_before, groups_of, group_text, type_entry_text, canon}
 use Rattle.ctw_write.specs.Runs.{Ahead}
-use Rattle.ctw_write.proofs.GroupTexts.{grown, grown_is, same_byte, same_is}
+use Rattle.ctw_write.proofs.GroupTexts.{grown, grown_is, same_byte}
 
 -- the same type again
 replicate_more : (n : ℕ) (t : ValueType Label) (types : List (ValueType Label)) → replicate n t ++ t ∷ types ≡ replicate (suc n) t ++ types
@@ -50,7 +50,7 @@ grown_other n t u (g ∷ groups) e = go (same_type u g.type) refl
         → grown n t (cond test (record { count = suc g.count; type = g.type } ∷ groups) (record { count = 1; type = u } ∷ g ∷ groups))
         ≡ group_of (suc n) t ∷ cond test (record { count = suc g.count; type = g.type } ∷ groups) (record { count = 1; type = u } ∷ g ∷ groups)
     go true q =
-        let other : same_type t g.type ≡ false = subst (λ (v : ValueType Label). same_type t v ≡ false) (same_is u g.type q) e in
+        let other : same_type t g.type ≡ false = subst (λ (v : ValueType Label). same_type t v ≡ false) (same_type_is u g.type q) e in
         rw other refl
     go false q = rw e refl
 
@@ -61,7 +61,7 @@ other_groups (suc n) t u types some e = grown_is n t (u ∷ types) ∙ grown_oth
 pub other_next : (whole : List Group) (written then : List ℕ) (run : Run) (t : ValueType Label) (types : List (ValueType Label)) → 0 < run.count → (type_byte t ≡ type_byte run.ty → ⊥) → then ≡ written ++ group_text (group_of run.count run.ty) → Ahead whole written run (t ∷ types)
     → Ahead whole then (record { groups = run.groups + 1; count = 1; ty = t }) types
 other_next whole written then run t types some e w h =
-    let other : same_type run.ty t ≡ false = ne_eqb (type_byte run.ty) (type_byte t) (λ q. e (sym q)) in
+    let other : same_type run.ty t ≡ false = same_type_differs run.ty t (λ q. e (ap type_byte (sym q))) in
     let list = other_groups run.count run.ty t types some other in
     let later = groups_of (replicate 1 t ++ types) in
     record {
@@ -171,10 +171,10 @@ use_named m f index function e s =
     some_is function.type index (sym (map_there m.functions (f - imported_count m) function (named_there m f function e)) ∙ sym right ∙ s)
 
 -- the name of a function of the code section
-pub named_at : (m : Module Label) (c : Imported) (i : ℕ) (function : Function Label) → IsCountOf m.imports c → slice_get m.functions i ≡ Some function → function_named m (c.functions + i) ≡ Some function
-named_at m c i function h e =
-    let past : nat_lt (c.functions + i) (imported_count m) ≡ false = le-ltb (c.functions + i) (imported_count m) (omega (arith, h.functions)) in
-    let place : c.functions + i - imported_count m ≡ i = omega (arith, h.functions) in
+pub named_at : (m : Module Label) (first i : ℕ) (function : Function Label) → first ≡ imported_count m → slice_get m.functions i ≡ Some function → function_named m (first + i) ≡ Some function
+named_at m first i function h e =
+    let past : nat_lt (first + i) (imported_count m) ≡ false = le-ltb (first + i) (imported_count m) (omega (arith, h)) in
+    let place : first + i - imported_count m ≡ i = omega (arith, h) in
     rw past (ap (slice_get m.functions) place ∙ e)
 
 map_type : (types : List (TypeEntry Label)) (i : ℕ) (entry : TypeEntry Label) → slice_get types i ≡ Some entry → slice_get (map (λ e. e.type) types) i ≡ Some entry.type

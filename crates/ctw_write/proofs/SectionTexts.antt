@@ -11,15 +11,15 @@ use Rattle.ctw_leb.specs.Numbers.{IsU32}
 use Rattle.ctw_leb.specs.Vectors.{Vector, Sized, IsName}
 use Rattle.ctw_leb.specs.Spelling.{u32_text}
 use Rattle.ctw_leb.proofs.Exact.{ok_is, err_ok, chosen}
-use Rattle.ctw_module.specs.declared.fault.FormKind.{FormKind}
-use Rattle.ctw_module.specs.declared.fault.FormKind.TheVariants.{BadSection}
-use Rattle.ctw_module.specs.declared.table.SectionKind.{SectionKind}
-use Rattle.ctw_module.specs.declared.table.SectionKind.TheVariants as kind
-use Rattle.ctw_module.specs.declared.sections.Seen.{Seen}
-use Rattle.ctw_module.specs.Tables.{rising, section_kind}
-use Rattle.ctw_module.specs.Sections.{Entry, Section, CustomSection, TypeSection, ImportSection, FunctionSection, TableSection, MemorySection, GlobalSection, ExportSection, StartSection, ElementSection, CodeSection, DataSection, none_held, held_after, nothing_seen, seen_after, Parts, no_parts, with_section, place_after}
-use Rattle.ctw_module.specs.Spelled.{VectorUpto, IsTypeEntry, IsTable, IsMemory, IsImport, IsExport, IsGlobal, IsElement, IsSegment, IsEntry, all_after, IsImports, room, Insides, IsSection}
-use Rattle.ctw_module.proofs.SpelledTrees.{times_count}
+use Rattle.ctw_form.specs.declared.fault.FormKind.{FormKind}
+use Rattle.ctw_form.specs.declared.fault.FormKind.TheVariants.{BadSection}
+use Rattle.ctw_form.specs.declared.table.SectionKind.{SectionKind}
+use Rattle.ctw_form.specs.declared.table.SectionKind.TheVariants as kind
+use Rattle.ctw_form.specs.declared.sections.Seen.{Seen}
+use Rattle.ctw_form.specs.Tables.{rising, section_kind}
+use Rattle.ctw_form.specs.Sections.{Entry, Section, CustomSection, TypeSection, ImportSection, FunctionSection, TableSection, MemorySection, GlobalSection, ExportSection, StartSection, ElementSection, CodeSection, DataSection, none_held, held_after, nothing_seen, seen_after, Parts, no_parts, with_section, place_after}
+use Rattle.ctw_form.specs.Spelled.{VectorUpto, IsTypeEntry, IsTable, IsMemory, IsImport, IsExport, IsGlobal, IsElement, IsSegment, IsEntry, all_after, IsImports, room, Insides, IsSection}
+use Rattle.ctw_form.proofs.SpelledParts.{times_count}
 use Rattle.ctw_write.specs.Canon.{all_texts, vector_text, sized_text, type_entry_text, import_text, table_text, memory_text, global_text, export_text, element_text, segment_text, section_text, items_text, start_text}
 use Rattle.ctw_write.proofs.Settling.{Settles, settles_then, settles_as, settles_times, settles_number, settles_vector, settles_upto, settles_name, sized_short}
 use Rattle.ctw_write.proofs.ItemTexts.{optional_first, upto_count, settles_type_entry, settles_table, settles_memory, settles_import, settles_export, settles_global, settles_element, settles_segment}

@@ -15,8 +15,8 @@ use Rattle.ctw_leb.specs.Spelling.{IsMinimal, shortest, u32_text, s64_text}
 use Rattle.ctw_leb.proofs.Standard.{seven_more, number_from_signed}
 use Rattle.ctw_leb.proofs.Spelling.{one_more, last_one, u32_minimal, s32_minimal, s64_minimal}
 use Rattle.ctw_flat.specs.Spelled.{IsBits}
-use Rattle.ctw_module.specs.Spelled.{VectorUpto}
-use Rattle.ctw_module.proofs.SpelledTrees.{times_count}
+use Rattle.ctw_form.specs.Spelled.{VectorUpto}
+use Rattle.ctw_form.proofs.SpelledParts.{times_count}
 use Rattle.ctw_write.specs.Canon.{all_texts, vector_text, sized_text, bits_text}
 
 -- what is written for a spelled value is a text and then a spelling that isn't longer

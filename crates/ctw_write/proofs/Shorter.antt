@@ -6,7 +6,7 @@ use Rattle.ctw_ops.specs.declared.types.Label.{Label}
 use Rattle.ctw_ops.specs.Tree.{Module, Import, Export, Segment, Custom}
 use Rattle.ctw_ops.specs.Typing.{optional}
 use Rattle.ctw_leb.specs.Spelling.{shortest, u32_text}
-use Rattle.ctw_module.specs.Spelled.{magic, version, Spells}
+use Rattle.ctw_form.specs.Spelled.{magic, version, Spells}
 use Rattle.ctw_write.specs.Canon.{all_texts, vector_text, sized_text, type_entry_text, table_text, memory_text, extern_text, import_text, kind_byte, export_text, constant_text, global_text, element_text, segment_text, code_text, section_text, items_text, start_text, customs_text, placed_text, sections_text, canon}
 use Rattle.ctw_write.proofs.Pieces.{laid}
 use Rattle.ctw_write.proofs.CanonicalText.{gathered_is, canonical_shortest}

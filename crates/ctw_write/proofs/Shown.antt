@@ -4,18 +4,12 @@ use Rattle.std.specs.Prelude.{slice_get, unwrap_or}
 use Rattle.std.proofs.lemmas.List.{length-append, length-map}
 use Rattle.ctw_ops.specs.ValueType.{ValueType}
 use Rattle.ctw_ops.specs.declared.types.Label.{Label}
-use Rattle.ctw_ops.specs.Types.{FunctionType, VariableType, MemoryType}
-use Rattle.ctw_ops.specs.Tree.{Module, TypeEntry, Function, Constant, Global, Import, Extern, ImportedFunction, ImportedTable, ImportedMemory, ImportedGlobal, table_among, memory_among, or_table, or_memory, function_entries, imported_functions, imported_globals, global_types, type_named, no_function_type}
+use Rattle.ctw_ops.specs.Types.{FunctionType, VariableType}
+use Rattle.ctw_ops.specs.Tree.{Module, TypeEntry, Function, Constant, Global, function_entries, imported_functions, imported_globals, global_types, type_named, no_function_type}
 use Rattle.ctw_ops.specs.Typing.{optional}
 use Rattle.ctw_leb.specs.Spelling.{u32_text}
-use Rattle.ctw_ops.specs.declared.types.Limits.{Limits}
-use Rattle.ctw_ops.specs.Once.{imported_tables, imported_memories, with_table, with_memory}
-use Rattle.ctw_module.specs.Spelled.{Spells}
-use Rattle.ctw_module.proofs.OneOfEach.{at_most_one}
-use Rattle.ctw_module.specs.Lookup.{global_inits}
-use Rattle.ctw_module.proofs.Params.{slice_get_right}
-use Rattle.ctw_write.specs.declared.imports.Imported.{Imported}
-use Rattle.ctw_write.specs.Counts.{IsCountOf}
+use Rattle.ctw_module.specs.Lookup.{imported_count, global_inits}
+use Rattle.ctw_form.proofs.Params.{slice_get_right}
 use Rattle.ctw_write.specs.Canon.{all_texts, vector_text, type_text, trust_byte, signature_text, type_entry_text}
 
 abbrev some : {A : Type 0} → A → Option A
@@ -68,15 +62,15 @@ use_there (f ∷ functions) (suc i) type e =
     let u = use_there functions i type e in
     record { function = u.function; there = u.there; same = u.same }
 
-pub use_at : (m : Module Label) (c : Imported) (i type : ℕ) → IsCountOf m.imports c → slice_get (function_entries m) (c.functions + i) ≡ Some type → UseAt m.functions i type
-use_at m c i type h e =
+pub use_at : (m : Module Label) (first i type : ℕ) → first ≡ imported_count m → slice_get (function_entries m) (first + i) ≡ Some type → UseAt m.functions i type
+use_at m first i type h e =
     let imported = imported_functions m.imports in
-    let behind : slice_get (map (λ f. f.type) m.functions) (c.functions + i - length imported) ≡ Some type = sym (slice_get_right imported (map (λ f. f.type) m.functions) (c.functions + i) (omega (arith, h.functions))) ∙ e in
-    let place : c.functions + i - length imported ≡ i = omega (arith, h.functions) in
+    let behind : slice_get (map (λ f. f.type) m.functions) (first + i - length imported) ≡ Some type = sym (slice_get_right imported (map (λ f. f.type) m.functions) (first + i) (omega (arith, h))) ∙ e in
+    let place : first + i - length imported ≡ i = omega (arith, h) in
     use_there m.functions i type (ap (slice_get (map (λ f. f.type) m.functions)) (sym place) ∙ behind)
 
-pub defined_count : (m : Module Label) (c : Imported) → IsCountOf m.imports c → length (function_entries m) ≡ c.functions + length m.functions
-defined_count m c h = omega (arith, length-append (imported_functions m.imports) (map (λ f. f.type) m.functions), length-map m.functions (λ f. f.type), h.functions)
+pub defined_count : (m : Module Label) (first : ℕ) → first ≡ imported_count m → length (function_entries m) ≡ first + length m.functions
+defined_count m first h = omega (arith, length-append (imported_functions m.imports) (map (λ f. f.type) m.functions), length-map m.functions (λ f. f.type), h)
 
 -- ---- defined globals
 
@@ -93,57 +87,19 @@ global_there (g ∷ globals) (suc i) type init e f =
     let u = global_there globals i type init e f in
     record { global = u.global; there = u.there; typed = u.typed; same = u.same }
 
-pub global_at : (m : Module Label) (c : Imported) (i : ℕ) (type : VariableType Label) (init : Option (Constant Label)) → IsCountOf m.imports c → slice_get (global_types m) (c.globals + i) ≡ Some type → slice_get (global_inits m) (c.globals + i) ≡ Some init
+pub global_at : (m : Module Label) (first i : ℕ) (type : VariableType Label) (init : Option (Constant Label)) → first ≡ length (imported_globals m.imports) → slice_get (global_types m) (first + i) ≡ Some type → slice_get (global_inits m) (first + i) ≡ Some init
     → GlobalAt m.globals i type init
-global_at m c i type init h e f =
+global_at m first i type init h e f =
     let imported = imported_globals m.imports in
     let none : List (Option (Constant Label)) = map (λ t. None) imported in
     let size : length none ≡ length imported = length-map imported (λ t. None) in
     let types = map (λ g. g.type) m.globals in
     let inits : List (Option (Constant Label)) = map (λ g. Some g.init) m.globals in
-    let first : c.globals + i - length imported ≡ i = omega (arith, h.globals) in
-    let second : c.globals + i - length none ≡ i = omega (arith, h.globals, size) in
-    let typed = sym (slice_get_right imported types (c.globals + i) (omega (arith, h.globals))) ∙ e in
-    let valued = sym (slice_get_right none inits (c.globals + i) (omega (arith, h.globals, size))) ∙ f in
-    global_there m.globals i type init (ap (slice_get types) (sym first) ∙ typed) (ap (slice_get inits) (sym second) ∙ valued)
+    let place : first + i - length imported ≡ i = omega (arith, h) in
+    let second : first + i - length none ≡ i = omega (arith, h, size) in
+    let typed = sym (slice_get_right imported types (first + i) (omega (arith, h))) ∙ e in
+    let valued = sym (slice_get_right none inits (first + i) (omega (arith, h, size))) ∙ f in
+    global_there m.globals i type init (ap (slice_get types) (sym place) ∙ typed) (ap (slice_get inits) (sym second) ∙ valued)
 
-pub defined_globals : (m : Module Label) (c : Imported) → IsCountOf m.imports c → length (global_types m) ≡ c.globals + length m.globals
-defined_globals m c h = omega (arith, length-append (imported_globals m.imports) (map (λ g. g.type) m.globals), length-map m.globals (λ g. g.type), h.globals)
-
--- ---- the defined table and memory
-
-among_none : (imports : List (Import Label)) (table : Option Limits) → length (imported_tables imports) ≡ 0 → table_among imports table ≡ table
-among_none [] table e = refl
-among_none (i ∷ imports) table e = go i.kind (λ f. among_none imports table f) e
-  where
-    go : (kind : Extern Label) → (length (imported_tables imports) ≡ 0 → table_among imports table ≡ table) → length (with_table kind (imported_tables imports)) ≡ 0 → or_table kind (table_among imports table) ≡ table
-    go (ImportedFunction type) f e = f e
-    go (ImportedTable limits) f e = absurd (omega (arith, e))
-    go (ImportedMemory type) f e = f e
-    go (ImportedGlobal type) f e = f e
-
-memory_none : (imports : List (Import Label)) (memory : Option (MemoryType Label)) → length (imported_memories imports) ≡ 0 → memory_among imports memory ≡ memory
-memory_none [] memory e = refl
-memory_none (i ∷ imports) memory e = go i.kind (λ f. memory_none imports memory f) e
-  where
-    go : (kind : Extern Label) → (length (imported_memories imports) ≡ 0 → memory_among imports memory ≡ memory) → length (with_memory kind (imported_memories imports)) ≡ 0 → or_memory kind (memory_among imports memory) ≡ memory
-    go (ImportedFunction type) f e = f e
-    go (ImportedTable limits) f e = f e
-    go (ImportedMemory type) f e = absurd (omega (arith, e))
-    go (ImportedGlobal type) f e = f e
-
-no_optional : {A : Type 0} (o : Option A) → length (optional o) ≡ 0 → o ≡ None
-no_optional None e = refl
-no_optional (Some a) e = absurd (omega (arith, e))
-
-pub own_table : (m : Module Label) (c : Imported) → IsCountOf m.imports c → c.tables ≡ 0 → table_among m.imports m.table ≡ m.table
-own_table m c h e = among_none m.imports m.table (omega (arith, h.tables))
-
-pub own_memory : (m : Module Label) (c : Imported) → IsCountOf m.imports c → c.memories ≡ 0 → memory_among m.imports m.memory ≡ m.memory
-own_memory m c h e = memory_none m.imports m.memory (omega (arith, h.memories))
-
-pub no_own_table : (bytes : List ℕ) (m : Module Label) (c : Imported) → Spells bytes m → IsCountOf m.imports c → (c.tables ≡ 0 → ⊥) → None ≡ m.table
-no_own_table bytes m c s h e = sym (no_optional m.table (omega (arith, (at_most_one bytes m s).0, length-append (imported_tables m.imports) (optional m.table), h.tables)))
-
-pub no_own_memory : (bytes : List ℕ) (m : Module Label) (c : Imported) → Spells bytes m → IsCountOf m.imports c → (c.memories ≡ 0 → ⊥) → None ≡ m.memory
-no_own_memory bytes m c s h e = sym (no_optional m.memory (omega (arith, (at_most_one bytes m s).1, length-append (imported_memories m.imports) (optional m.memory), h.memories)))
+pub defined_globals : (m : Module Label) (first : ℕ) → first ≡ length (imported_globals m.imports) → length (global_types m) ≡ first + length m.globals
+defined_globals m first h = omega (arith, length-append (imported_globals m.imports) (map (λ g. g.type) m.globals), length-map m.globals (λ g. g.type), h)

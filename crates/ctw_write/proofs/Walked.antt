@@ -1,16 +1,10 @@
 -- What is read for writing it again: numbers and opcodes one after another.
-use Rattle.std.proofs.Common.{◌≡◌, ℕ, suc, ◌+◌, ◌-◌, ◌*◌, ◌<◌, ◌≤◌, List, [], ◌∷◌, ◌++◌, length, take, drop, Result, Ok, Err, refl, sym, ap, subst, ◌∙◌, append_assoc, append-nil, arith, length-append}
-use Rattle.std.proofs.lemmas.List.{take_all, drop_at, drop_all, drop-drop, length-drop}
-use Rattle.std.proofs.Math.Seq.{take-append-add}
+use Rattle.std.proofs.Common.{◌≡◌, ℕ, ◌+◌, ◌-◌, ◌<◌, ◌≤◌, List, [], ◌∷◌, ◌++◌, length, drop, Result, Ok, Err, refl, sym, ap, subst, ◌∙◌, append_assoc, append-nil, arith, length-append}
+use Rattle.std.proofs.lemmas.List.{drop_at, drop_all, drop-drop, length-drop}
 use Rattle.std.specs.Prelude.{OnOk, is_ok, cond}
 use Rattle.ctw_ops.specs.declared.types.Label.{Label}
 use Rattle.ctw_ops.specs.Code.{Op, Plain, BrTable, Code, opcodes}
-use Rattle.ctw_leb.specs.declared.fault.LebFault.{LebFault}
-use Rattle.ctw_leb.specs.Input.{Input}
-use Rattle.ctw_leb.specs.Grammar.{Times}
-use Rattle.ctw_leb.specs.Numbers.{IsUnsigned, IsU32}
 use Rattle.ctw_leb.specs.Spelling.{u32_text}
-use Rattle.ctw_leb.specs.Calls.{ReadsNumber}
 use Rattle.ctw_leb.proofs.Exact.{one_spelling}
 use Rattle.ctw_flat.specs.Spelled.{IsOp, IsOps, IsBody}
 use Rattle.ctw_flat.specs.Read.{op_at}
@@ -18,86 +12,6 @@ use Rattle.ctw_flat.proofs.Ops.{exact_op}
 use Rattle.ctw_flat.proofs.Places.{one_body}
 use Rattle.ctw_write.proofs.Pieces.{nil_cons}
 use Rattle.ctw_write.specs.Canon.{all_texts, op_text, body_text}
-
--- ---- numbers
-
-unsigned_short : (bits : ℕ) (text : List ℕ) (n : ℕ) → 0 < bits → IsUnsigned bits text n → 7 * length text ≤ bits + 6
-unsigned_short bits [] n some h = absurd h
-unsigned_short bits (b ∷ []) n some h = omega arith
-unsigned_short bits (b ∷ c ∷ bs) n some h =
-    let seven : 7 < bits = h.2 in
-    omega (arith, unsigned_short (bits - 7) (c ∷ bs) h.3 (omega arith) h.4)
-
-u32_five : (text : List ℕ) (n : ℕ) → IsU32 text n → length text ≤ 5
-u32_five text n h = omega (arith, unsigned_short 32 text n (omega arith) h)
-
-front_is : (bytes text after : List ℕ) (n : ℕ) → IsU32 text n → bytes ≡ text ++ after → take 5 bytes ≡ text ++ take (5 - length text) after
-front_is bytes text after n m e =
-    let sum : length text + (5 - length text) ≡ 5 = omega (arith, u32_five text n m) in
-    ap (take 5) e ∙ ap (λ (k : ℕ). take k (text ++ after)) (sym sum) ∙ take-append-add text after (5 - length text)
-
--- the number at the front of bytes that were cut behind the fifth
-pub first_read : (result : Result ℕ LebFault) (old new : Input) (bytes text after : List ℕ) (n : ℕ) → ReadsNumber IsU32 result old new → old.at ≡ 0 → old.rest ≡ take 5 bytes → IsU32 text n → bytes ≡ text ++ after
-    → (result ≡ Ok n) × (new.at ≡ length text)
-first_read result old new bytes text after n r at rest m e =
-    let f = r.found text (take (5 - length text) after) n m (rest ∙ front_is bytes text after n m e) in
-    (f.0, ap (λ (i : Input). i.at) f.1 ∙ ap (λ (k : ℕ). k + length text) at ∙ omega arith)
-
--- what stands behind a text
-pub behind_is : (bytes text after : List ℕ) (place : ℕ) → bytes ≡ text ++ after → place ≡ length text → take (length bytes - place) (drop place bytes) ≡ after
-behind_is bytes text after place e p =
-    let tail : drop place bytes ≡ after = ap (drop place) e ∙ drop_at text after place (sym p) in
-    ap (take (length bytes - place)) tail ∙ take_all (length bytes - place) after (omega (arith, ap length e, length-append text after))
-
--- so many numbers are left, and what is written, with their texts, is the whole
-pub record NumbersAhead (left : ℕ) (rest written whole : List ℕ) : Type 0 where
-  pub numbers : List ℕ
-  pub spelled : Times IsU32 left rest numbers
-  pub together : written ++ all_texts u32_text numbers ≡ whole
-
-pub numbers_begin : (count : ℕ) (bytes start numbers : List ℕ) → Times IsU32 count bytes numbers → NumbersAhead (count - 0) bytes start (start ++ all_texts u32_text numbers)
-numbers_begin count bytes start numbers m =
-    let same : count ≡ count - 0 = omega arith in
-    record { numbers = numbers; spelled = subst (λ (k : ℕ). Times IsU32 k bytes numbers) same m; together = refl }
-
--- one more of them
-pub record NumberAhead (left : ℕ) (rest written whole : List ℕ) : Type 0 where
-  pub number : ℕ
-  pub text : List ℕ
-  pub after : List ℕ
-  pub spelled : IsU32 text number
-  pub front : rest ≡ text ++ after
-  pub next : (then : List ℕ) → then ≡ written ++ u32_text number → NumbersAhead left after then whole
-
-number_ahead_suc : (left : ℕ) (rest written whole : List ℕ) → NumbersAhead (suc left) rest written whole → NumberAhead left rest written whole
-number_ahead_suc left rest written whole h =
-    let m = h.spelled in
-    let others = m.4 in
-    let tail : others.1 ≡ m.2 = sym (others.5 ∙ ap (λ (l : List ℕ). others.1 ++ l) others.4.0 ∙ append-nil others.1) in
-    let list : h.numbers ≡ m.0 ∷ others.0 = sym others.4.1 in
-    record {
-      number = m.0;
-      text = m.1;
-      after = m.2;
-      spelled = m.3;
-      front = m.5;
-      next = λ then e. record {
-        numbers = others.0;
-        spelled = subst (λ (l : List ℕ). Times IsU32 left l others.0) tail others.3;
-        together = ap (λ (l : List ℕ). l ++ all_texts u32_text others.0) e ∙ append_assoc written (u32_text m.0) (all_texts u32_text others.0) ∙ ap (λ (l : List ℕ). written ++ all_texts u32_text l) (sym list) ∙ h.together;
-      };
-    }
-
-pub number_ahead : (count counter : ℕ) (rest written whole : List ℕ) → counter < count → NumbersAhead (count - counter) rest written whole → NumberAhead (count - (counter + 1)) rest written whole
-number_ahead count counter rest written whole lt h =
-    let same : count - counter ≡ suc (count - (counter + 1)) = omega arith in
-    number_ahead_suc (count - (counter + 1)) rest written whole (subst (λ (k : ℕ). NumbersAhead k rest written whole) same h)
-
-pub numbers_end : (count counter : ℕ) (rest written whole : List ℕ) → count ≤ counter → NumbersAhead (count - counter) rest written whole → written ≡ whole
-numbers_end count counter rest written whole le h =
-    let none : count - counter ≡ 0 = omega arith in
-    let m = subst (λ (k : ℕ). Times IsU32 k rest h.numbers) none h.spelled in
-    sym (append-nil written) ∙ ap (λ (l : List ℕ). written ++ all_texts u32_text l) m.1 ∙ h.together
 
 -- ---- opcodes
 

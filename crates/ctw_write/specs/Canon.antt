@@ -1,5 +1,5 @@
--- The canonical spelling of a module: minimal numbers, no empty sections, maximal groups of equal locals, and custom sections straight
--- behind the section of their place (W3C WebAssembly Core 1.0, section 5, where it leaves a choice).
+-- The canonical spelling of a module: minimal numbers, no empty sections, maximal groups of equal locals, and custom
+-- sections straight behind the section of their place (W3C WebAssembly Core 1.0, section 5, where it leaves a choice).
 use Rattle.std.specs.Prelude.{ℕ, suc, ◌==◌, Bool, true, false, List, [], ◌∷◌, ◌++◌, length, filter, Option, Some, None, if◌then◌else◌}
 use Rattle.std.specs.Int.{w32, w64, cast_signed}
 use Rattle.ctw_ops.specs.declared.types.Label.{Label}
@@ -12,12 +12,19 @@ use Rattle.ctw_ops.specs.declared.types.Limits.{Limits}
 use Rattle.ctw_ops.specs.declared.types.ExternTag.{ExternTag}
 use Rattle.ctw_ops.specs.declared.types.ExternTag.TheVariants as tag
 use Rattle.ctw_ops.specs.Types.{ValueType, FunctionType, VariableType, MemoryType, type_byte}
-use Rattle.ctw_ops.specs.Code.{Leaf, Unreachable, Nop, Br, BrIf, BrTable, Return, Call, CallIndirect, Drop, Select, LocalGet, LocalSet, LocalTee, GlobalGet, GlobalSet, Load, Store, MemorySize, MemoryGrow, Const, Numeric, Classify, Declassify, Code, Shape, OfBlock, OfLoop, OfIf, Closer, ByEnd, ByElse, Op, Plain, Opens, Closes, opcodes}
+use Rattle.ctw_ops.specs.Equal.{same_type}
+use Rattle.ctw_ops.specs.Code.{Leaf, Unreachable, Nop, Br, BrIf, BrTable, Return, Call, CallIndirect, Drop, Select, LocalGet, LocalSet, LocalTee, GlobalGet, GlobalSet, Load, Store, MemorySize, MemoryGrow, Const, Numeric, Classify, Declassify, Code, Shape, OfBlock, OfLoop, OfIf, ByEnd, ByElse, Op, Plain, Opens, Closes, opcodes}
 use Rattle.ctw_ops.specs.Tree.{Module, TypeEntry, Extern, ImportedFunction, ImportedTable, ImportedMemory, ImportedGlobal, Import, Function, Constant, Number, ValueOf, Global, Export, Element, Segment, Custom}
 use Rattle.ctw_ops.specs.Typing.{optional}
 use Rattle.ctw_leb.specs.Spelling.{u32_text, s64_text}
-use Rattle.ctw_module.specs.Sections.{Group}
-use Rattle.ctw_module.specs.Spelled.{magic, version}
+use Rattle.ctw_flat.specs.declared.opcode.Bare.TheVariants as bare
+use Rattle.ctw_flat.specs.declared.opcode.Opener.{Opener}
+use Rattle.ctw_flat.specs.declared.opcode.Opener.TheVariants as opener
+use Rattle.ctw_flat.specs.declared.opcode.Indexed.TheVariants as indexed
+use Rattle.ctw_flat.specs.declared.opcode.Form.TheVariants as form
+use Rattle.ctw_flat.specs.Opcodes.{opcode_byte, load_form, store_form, prefix_byte}
+use Rattle.ctw_form.specs.Sections.{Group}
+use Rattle.ctw_form.specs.Spelled.{magic, version}
 
 -- ---- things behind their count or size
 
@@ -104,80 +111,55 @@ export_text e = sized_text e.name ++ kind_byte e.kind ∷ u32_text e.index
 -- the secret form of an instruction stands behind a prefix
 abbrev pub in_form : Label → List ℕ → List ℕ
 in_form Public text = text
-in_form Secret text = 0xE0 ∷ text
+in_form Secret text = prefix_byte ∷ text
 
 -- a number by its bits
 abbrev pub bits_text : Width → ℕ → List ℕ
 bits_text W32 bits = s64_text (cast_signed w32 bits)
 bits_text W64 bits = s64_text (cast_signed w64 bits)
 
-abbrev pub const_byte : Width → ℕ
-const_byte W32 = 0x41
-const_byte W64 = 0x42
-
-abbrev pub by_sign : Bool → ℕ → ℕ → ℕ
-by_sign true signed unsigned = signed
-by_sign false signed unsigned = unsigned
-
-abbrev pub load_byte : Width → ℕ → Bool → ℕ
-load_byte W32 bytes signed = if bytes == 1 then by_sign signed 0x2C 0x2D else if bytes == 2 then by_sign signed 0x2E 0x2F else 0x28
-load_byte W64 bytes signed =
-    if bytes == 1 then by_sign signed 0x30 0x31 else if bytes == 2 then by_sign signed 0x32 0x33 else if bytes == 4 then by_sign signed 0x34 0x35 else 0x29
-
-abbrev pub store_byte : Width → ℕ → ℕ
-store_byte W32 bytes = if bytes == 1 then 0x3A else if bytes == 2 then 0x3B else 0x36
-store_byte W64 bytes = if bytes == 1 then 0x3C else if bytes == 2 then 0x3D else if bytes == 4 then 0x3E else 0x37
-
-abbrev pub classify_byte : Width → ℕ
-classify_byte W32 = 0xE1
-classify_byte W64 = 0xE2
-
-abbrev pub declassify_byte : Width → ℕ
-declassify_byte W32 = 0xE3
-declassify_byte W64 = 0xE4
-
 abbrev pub leaf_text : Leaf Label → List ℕ
-leaf_text Unreachable = 0x00 ∷ []
-leaf_text Nop = 0x01 ∷ []
-leaf_text (Br depth) = 0x0C ∷ u32_text depth
-leaf_text (BrIf depth) = 0x0D ∷ u32_text depth
-leaf_text (BrTable targets otherwise) = 0x0E ∷ (vector_text u32_text targets ++ u32_text otherwise)
-leaf_text Return = 0x0F ∷ []
-leaf_text (Call index) = 0x10 ∷ u32_text index
-leaf_text (CallIndirect index) = 0x11 ∷ (u32_text index ++ 0x00 ∷ [])
-leaf_text Drop = 0x1A ∷ []
-leaf_text (Select l) = in_form l (0x1B ∷ [])
-leaf_text (LocalGet index) = 0x20 ∷ u32_text index
-leaf_text (LocalSet index) = 0x21 ∷ u32_text index
-leaf_text (LocalTee index) = 0x22 ∷ u32_text index
-leaf_text (GlobalGet index) = 0x23 ∷ u32_text index
-leaf_text (GlobalSet index) = 0x24 ∷ u32_text index
-leaf_text (Load w l bytes signed align offset) = in_form l (load_byte w bytes signed ∷ (u32_text align ++ u32_text offset))
-leaf_text (Store w l bytes align offset) = in_form l (store_byte w bytes ∷ (u32_text align ++ u32_text offset))
-leaf_text MemorySize = 0x3F ∷ 0x00 ∷ []
-leaf_text MemoryGrow = 0x40 ∷ 0x00 ∷ []
-leaf_text (Const w l bits) = in_form l (const_byte w ∷ bits_text w bits)
-leaf_text (Numeric op l) = in_form l (op ∷ [])
-leaf_text (Classify w) = classify_byte w ∷ []
-leaf_text (Declassify w) = declassify_byte w ∷ []
+leaf_text Unreachable = opcode_byte (form.Bare bare.Unreachable) ∷ []
+leaf_text Nop = opcode_byte (form.Bare bare.Nop) ∷ []
+leaf_text (Br depth) = opcode_byte (form.Indexed indexed.Br) ∷ u32_text depth
+leaf_text (BrIf depth) = opcode_byte (form.Indexed indexed.BrIf) ∷ u32_text depth
+leaf_text (BrTable targets otherwise) =
+    opcode_byte form.BrTable ∷ (vector_text u32_text targets ++ u32_text otherwise)
+leaf_text Return = opcode_byte (form.Bare bare.Return) ∷ []
+leaf_text (Call index) = opcode_byte (form.Indexed indexed.Call) ∷ u32_text index
+leaf_text (CallIndirect index) = opcode_byte form.CallIndirect ∷ (u32_text index ++ 0x00 ∷ [])
+leaf_text Drop = opcode_byte (form.Bare bare.Drop) ∷ []
+leaf_text (Select l) = in_form l (opcode_byte form.Select ∷ [])
+leaf_text (LocalGet index) = opcode_byte (form.Indexed indexed.LocalGet) ∷ u32_text index
+leaf_text (LocalSet index) = opcode_byte (form.Indexed indexed.LocalSet) ∷ u32_text index
+leaf_text (LocalTee index) = opcode_byte (form.Indexed indexed.LocalTee) ∷ u32_text index
+leaf_text (GlobalGet index) = opcode_byte (form.Indexed indexed.GlobalGet) ∷ u32_text index
+leaf_text (GlobalSet index) = opcode_byte (form.Indexed indexed.GlobalSet) ∷ u32_text index
+leaf_text (Load w l bytes signed align offset) =
+    in_form l (opcode_byte (load_form w bytes signed) ∷ (u32_text align ++ u32_text offset))
+leaf_text (Store w l bytes align offset) =
+    in_form l (opcode_byte (store_form w bytes) ∷ (u32_text align ++ u32_text offset))
+leaf_text MemorySize = opcode_byte form.MemorySize ∷ 0x00 ∷ []
+leaf_text MemoryGrow = opcode_byte form.MemoryGrow ∷ 0x00 ∷ []
+leaf_text (Const w l bits) = in_form l (opcode_byte (form.Const w) ∷ bits_text w bits)
+leaf_text (Numeric op l) = in_form l (opcode_byte (form.Numeric op) ∷ [])
+leaf_text (Classify w) = opcode_byte (form.Bare (bare.Classify w)) ∷ []
+leaf_text (Declassify w) = opcode_byte (form.Bare (bare.Declassify w)) ∷ []
 
-abbrev pub shape_byte : Shape → ℕ
-shape_byte OfBlock = 0x02
-shape_byte OfLoop = 0x03
-shape_byte OfIf = 0x04
+abbrev pub opener_of : Shape → Opener
+opener_of OfBlock = opener.Block
+opener_of OfLoop = opener.Loop
+opener_of OfIf = opener.If
 
 abbrev pub block_type_byte : Option (ValueType Label) → ℕ
 block_type_byte None = 0x40
 block_type_byte (Some t) = type_byte t
 
-abbrev pub closer_byte : Closer → ℕ
-closer_byte ByElse = 0x05
-closer_byte ByEnd = 0x0B
-
 abbrev pub op_text : Op Label → List ℕ
 op_text (Plain leaf) = leaf_text leaf
-op_text (Opens shape t) = shape_byte shape ∷ block_type_byte t ∷ []
-op_text (Closes closer) = closer_byte closer ∷ []
+op_text (Opens shape t) = opcode_byte (form.Opens (opener_of shape)) ∷ block_type_byte t ∷ []
+op_text (Closes ByElse) = opcode_byte (form.Bare bare.Else) ∷ []
+op_text (Closes ByEnd) = opcode_byte (form.Bare bare.End) ∷ []
 
 -- instructions with the closing end
 abbrev pub body_text : Code Label → List ℕ
@@ -186,8 +168,8 @@ body_text code = all_texts op_text (opcodes code)
 -- ---- constant expressions and what begins by them
 
 abbrev pub constant_text : Constant Label → List ℕ
-constant_text (Number t bits) = leaf_text (Const t.width t.tag bits) ++ 0x0B ∷ []
-constant_text (ValueOf global) = leaf_text (GlobalGet global) ++ 0x0B ∷ []
+constant_text (Number t bits) = leaf_text (Const t.width t.tag bits) ++ op_text (Closes ByEnd)
+constant_text (ValueOf global) = leaf_text (GlobalGet global) ++ op_text (Closes ByEnd)
 
 abbrev pub global_text : Global Label → List ℕ
 global_text g = variable_text g.type ++ constant_text g.init
@@ -200,13 +182,12 @@ segment_text s = u32_text s.memory ++ constant_text s.offset ++ sized_text s.byt
 
 -- ---- code
 
-abbrev pub same_type : ValueType Label → ValueType Label → Bool
-same_type t u = type_byte t == type_byte u
-
 -- one local in front of groups
 abbrev pub local_before : ValueType Label → List Group → List Group
 local_before t [] = record { count = 1; type = t } ∷ []
-local_before t (g ∷ groups) = if same_type t g.type then record { count = suc g.count; type = g.type } ∷ groups else record { count = 1; type = t } ∷ g ∷ groups
+local_before t (g ∷ groups) =
+    if same_type t g.type then record { count = suc g.count; type = g.type } ∷ groups
+    else record { count = 1; type = t } ∷ g ∷ groups
 
 -- the fewest groups: those that stand one after another have different types
 abbrev pub groups_of : List (ValueType Label) → List Group

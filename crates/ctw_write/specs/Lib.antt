@@ -1,5 +1,4 @@
 pub mod Canon
-pub mod Counts
 pub mod Runs
 pub mod Ready
 pub mod KeepsLimits

@@ -1,18 +1,22 @@
 //! Appending instructions. Where memory runs out, some bytes may be there.
-ghost use Rattle.std.specs.Prelude.{◌≡◌, ◌<◌, ◌≤◌, ◌^◌, ◌++◌, ◌∷◌, [], ℕ, List, length, take, OnOk, IfOk, Option};
+ghost use Rattle.std.specs.Prelude.{◌≡◌, ◌<◌, ◌≤◌, ◌^◌, ◌++◌, ◌∷◌, [], ℕ, List, length, OnOk, Option};
 ghost use Rattle.ctw_ops.specs.declared.types.Label.{Label};
 ghost use Rattle.ctw_ops.specs.Code.{Op, Plain, BrTable, Code};
 ghost use Rattle.ctw_leb.specs.Grammar.{Times};
 ghost use Rattle.ctw_leb.specs.Numbers.{IsU32};
 ghost use Rattle.ctw_leb.specs.Spelling.{u32_text};
+ghost use Rattle.ctw_flat.specs.Opcodes.{opcode_byte};
+ghost use Rattle.ctw_flat.specs.declared.opcode.Form.TheVariants as form;
 ghost use Rattle.ctw_flat.specs.Spelled.{IsOp, IsBody};
 ghost use Rattle.ctw_flat.specs.Instructions.{op_of, targets_in, IsExactly};
-ghost use Rattle.ctw_write.specs.Canon.{all_texts, in_form, bits_text, const_byte, load_byte, store_byte, classify_byte, declassify_byte, block_type_byte, op_text, body_text};
+ghost use Rattle.ctw_write.specs.Canon.{all_texts, in_form, bits_text, block_type_byte, op_text, body_text};
 ghost use Rattle.ctw_ops.specs.Types.{FitsWidth};
 
-use crate::text::type_code;
-use ctw_flat::{Body, Instr};
-use ctw_leb::{Cursor, put_s64, put_u32};
+use ctw_flat::{
+    Access, Bare, Body, Form, Indexed, Instr, Opener, SECRET_PREFIX, Targets, Walk, byte_of_type,
+    opcode_of,
+};
+use ctw_leb::{put_s64, put_u32};
 use ctw_ops::{Label, ValType, Width};
 use std::alloc::AllocError;
 
@@ -24,75 +28,52 @@ fn put_byte(out: &mut Vec<u8>, byte: u8) -> Result<(), AllocError>
     Ok(())
 }
 
+/// An opcode.
+fn put_opcode(out: &mut Vec<u8>, form: Form) -> Result<(), AllocError>
+    ensures { OnOk result (out.new.items ≡ out.old.items ++ opcode_byte form ∷ []) }
+{
+    put_byte(out, opcode_of(form))
+}
+
 /// An opcode with its prefix, if it is secret.
-fn put_form(out: &mut Vec<u8>, label: Label, byte: u8) -> Result<(), AllocError>
-    ensures { OnOk result (out.new.items ≡ out.old.items ++ in_form label (byte ∷ [])) }
+fn put_form(out: &mut Vec<u8>, label: Label, form: Form) -> Result<(), AllocError>
+    ensures { OnOk result (out.new.items ≡ out.old.items ++ in_form label (opcode_byte form ∷ [])) }
 {
     if label == Label::Secret {
-        out.push(0xE0)?;
+        out.push(SECRET_PREFIX)?;
     }
-    put_byte(out, byte)
+    put_opcode(out, form)
 }
 
 /// An opcode with an index.
-fn put_indexed(out: &mut Vec<u8>, byte: u8, index: u32) -> Result<(), AllocError>
-    ensures { OnOk result (out.new.items ≡ out.old.items ++ byte ∷ u32_text index) }
+fn put_indexed(out: &mut Vec<u8>, form: Form, index: u32) -> Result<(), AllocError>
+    ensures { OnOk result (out.new.items ≡ out.old.items ++ opcode_byte form ∷ u32_text index) }
 {
-    put_byte(out, byte)?;
+    put_opcode(out, form)?;
     put_u32(out, index)
 }
 
 /// An opcode with the byte that stands for no choice yet.
-fn put_reserved(out: &mut Vec<u8>, byte: u8) -> Result<(), AllocError>
-    ensures { OnOk result (out.new.items ≡ out.old.items ++ byte ∷ 0x00 ∷ []) }
+fn put_reserved(out: &mut Vec<u8>, form: Form) -> Result<(), AllocError>
+    ensures { OnOk result (out.new.items ≡ out.old.items ++ opcode_byte form ∷ 0x00 ∷ []) }
 {
-    put_byte(out, byte)?;
+    put_opcode(out, form)?;
     put_byte(out, 0x00)
 }
 
 /// An opcode that opens a block, with the type of its result.
-fn put_block(out: &mut Vec<u8>, byte: u8, result_type: Option<ValType>) -> Result<(), AllocError>
-    ensures { OnOk result (out.new.items ≡ out.old.items ++ byte ∷ block_type_byte result_type ∷ []) }
+fn put_block(
+    out: &mut Vec<u8>,
+    opener: Opener,
+    result_type: Option<ValType>,
+) -> Result<(), AllocError>
+    ensures { OnOk result (out.new.items
+        ≡ out.old.items ++ opcode_byte (form.Opens opener) ∷ block_type_byte result_type ∷ []) }
 {
-    put_byte(out, byte)?;
+    put_opcode(out, Form::Opens(opener))?;
     match result_type {
-        Some(t) => put_byte(out, type_code(t)),
+        Some(t) => put_byte(out, byte_of_type(t)),
         None => put_byte(out, 0x40),
-    }
-}
-
-/// The opcode of a load.
-fn load_code(width: Width, bytes: u8, signed: bool) -> u8
-    ensures { result ≡ load_byte width bytes signed }
-{
-    match (width, bytes, signed) {
-        (Width::W32, 1, true) => 0x2C,
-        (Width::W32, 1, false) => 0x2D,
-        (Width::W32, 2, true) => 0x2E,
-        (Width::W32, 2, false) => 0x2F,
-        (Width::W32, _, _) => 0x28,
-        (Width::W64, 1, true) => 0x30,
-        (Width::W64, 1, false) => 0x31,
-        (Width::W64, 2, true) => 0x32,
-        (Width::W64, 2, false) => 0x33,
-        (Width::W64, 4, true) => 0x34,
-        (Width::W64, 4, false) => 0x35,
-        (Width::W64, _, _) => 0x29,
-    }
-}
-
-/// The opcode of a store.
-fn store_code(width: Width, bytes: u8) -> u8
-    ensures { result ≡ store_byte width bytes }
-{
-    match (width, bytes) {
-        (Width::W32, 1) => 0x3A,
-        (Width::W32, 2) => 0x3B,
-        (Width::W32, _) => 0x36,
-        (Width::W64, 1) => 0x3C,
-        (Width::W64, 2) => 0x3D,
-        (Width::W64, 4) => 0x3E,
-        (Width::W64, _) => 0x37,
     }
 }
 
@@ -100,13 +81,14 @@ fn store_code(width: Width, bytes: u8) -> u8
 fn put_access(
     out: &mut Vec<u8>,
     label: Label,
-    byte: u8,
+    access: Access,
     align: u32,
     offset: u32,
 ) -> Result<(), AllocError>
-    ensures { OnOk result (out.new.items ≡ out.old.items ++ in_form label (byte ∷ (u32_text align ++ u32_text offset))) }
+    ensures { OnOk result (out.new.items
+        ≡ out.old.items ++ in_form label (opcode_byte (form.Access access) ∷ (u32_text align ++ u32_text offset))) }
 {
-    put_form(out, label, byte)?;
+    put_form(out, label, Form::Access(access))?;
     put_u32(out, align)?;
     put_u32(out, offset)
 }
@@ -130,47 +112,18 @@ pub(crate) fn put_const(
     bits: u64,
 ) -> Result<(), AllocError>
     requires { FitsWidth width bits }
-    ensures { OnOk result (out.new.items ≡ out.old.items ++ in_form label (const_byte width ∷ bits_text width bits)) }
+    ensures { OnOk result (out.new.items ≡ out.old.items ++ in_form label (opcode_byte (form.Const width) ∷ bits_text width bits)) }
 {
-    let byte = match width {
-        Width::W32 => 0x41,
-        Width::W64 => 0x42,
-    };
-    put_form(out, label, byte)?;
+    put_form(out, label, Form::Const(width))?;
     put_bits(out, width, bits)
 }
 
-/// The bytes up to the fifth, within which a number at their front ends.
-fn front(bytes: &[u8]) -> &[u8]
-    ensures { result.now ≡ take 5 bytes.now }
+/// The minimal spellings of the targets that are left.
+fn put_targets(out: &mut Vec<u8>, mut targets: Targets) -> Result<(), AllocError>
+    ensures { OnOk result (out.new.items ≡ out.old.items ++ all_texts u32_text targets.entry) }
 {
-    if bytes.len() < 5 { bytes } else { &bytes[..5] }
-}
-
-/// The minimal spelling of the number at the front of bytes. Gives the bytes behind the number.
-fn put_first<'a>(out: &mut Vec<u8>, bytes: &'a [u8]) -> Result<&'a [u8], AllocError>
-    requires { (text after : List ℕ) × (n : ℕ) × IsU32 text n × (bytes.now ≡ text ++ after) }
-    ensures put { (text after : List ℕ) (n : ℕ) → IsU32 text n → bytes.now ≡ text ++ after → OnOk result (out.new.items ≡ out.old.items ++ u32_text n) }
-    ensures behind { (text after : List ℕ) (n : ℕ) → IsU32 text n → bytes.now ≡ text ++ after → IfOk result (λ rest. rest.now ≡ after) }
-{
-    let mut cursor = Cursor::new(front(bytes), 0);
-    match cursor.read_u32() {
-        Ok(n) => {
-            put_u32(out, n)?;
-            Ok(&bytes[cursor.place() as usize..])
-        }
-        Err(_) => Ok(bytes), // never: a number stands there
-    }
-}
-
-/// The minimal spellings of so many numbers, which these bytes spell.
-fn put_numbers(out: &mut Vec<u8>, bytes: &[u8], count: u32) -> Result<(), AllocError>
-    requires { Times IsU32 count bytes.now (targets_in count bytes.now) }
-    ensures { OnOk result (out.new.items ≡ out.old.items ++ all_texts u32_text (targets_in count bytes.now)) }
-{
-    let mut rest = bytes;
-    for _ in 0..count {
-        rest = put_first(out, rest)?;
+    'targets: while let Some(target) = targets.next() {
+        put_u32(out, target)?;
     }
     Ok(())
 }
@@ -183,11 +136,12 @@ fn put_branch_table(
     otherwise: u32,
 ) -> Result<(), AllocError>
     requires { Times IsU32 count targets.now (targets_in count targets.now) }
-    ensures { OnOk result (out.new.items ≡ out.old.items ++ op_text (Plain (BrTable (targets_in count targets.now) otherwise))) }
+    ensures { OnOk result (out.new.items
+        ≡ out.old.items ++ op_text (Plain (BrTable (targets_in count targets.now) otherwise))) }
 {
-    put_byte(out, 0x0E)?;
+    put_opcode(out, Form::BrTable)?;
     put_u32(out, count)?;
-    put_numbers(out, targets, count)?;
+    put_targets(out, Targets::new(targets, count))?;
     put_u32(out, otherwise)
 }
 
@@ -198,33 +152,33 @@ fn put_instr(out: &mut Vec<u8>, instr: &Instr) -> Result<(), AllocError>
     ensures { OnOk result (out.new.items ≡ out.old.items ++ op_text (op_of instr.now)) }
 {
     match *instr {
-        Instr::Unreachable => put_byte(out, 0x00),
-        Instr::Nop => put_byte(out, 0x01),
-        Instr::Block { result } => put_block(out, 0x02, result),
-        Instr::Loop { result } => put_block(out, 0x03, result),
-        Instr::If { result } => put_block(out, 0x04, result),
-        Instr::Else => put_byte(out, 0x05),
-        Instr::End => put_byte(out, 0x0B),
-        Instr::Br { depth } => put_indexed(out, 0x0C, depth),
-        Instr::BrIf { depth } => put_indexed(out, 0x0D, depth),
+        Instr::Unreachable => put_opcode(out, Form::Bare(Bare::Unreachable)),
+        Instr::Nop => put_opcode(out, Form::Bare(Bare::Nop)),
+        Instr::Block { result } => put_block(out, Opener::Block, result),
+        Instr::Loop { result } => put_block(out, Opener::Loop, result),
+        Instr::If { result } => put_block(out, Opener::If, result),
+        Instr::Else => put_opcode(out, Form::Bare(Bare::Else)),
+        Instr::End => put_opcode(out, Form::Bare(Bare::End)),
+        Instr::Br { depth } => put_indexed(out, Form::Indexed(Indexed::Br), depth),
+        Instr::BrIf { depth } => put_indexed(out, Form::Indexed(Indexed::BrIf), depth),
         Instr::BrTable {
             targets,
             count,
             otherwise,
         } => put_branch_table(out, targets, count, otherwise),
-        Instr::Return => put_byte(out, 0x0F),
-        Instr::Call { index } => put_indexed(out, 0x10, index),
+        Instr::Return => put_opcode(out, Form::Bare(Bare::Return)),
+        Instr::Call { index } => put_indexed(out, Form::Indexed(Indexed::Call), index),
         Instr::CallIndirect { index } => {
-            put_indexed(out, 0x11, index)?;
+            put_indexed(out, Form::CallIndirect, index)?;
             put_byte(out, 0x00)
         }
-        Instr::Drop => put_byte(out, 0x1A),
-        Instr::Select { label } => put_form(out, label, 0x1B),
-        Instr::LocalGet { index } => put_indexed(out, 0x20, index),
-        Instr::LocalSet { index } => put_indexed(out, 0x21, index),
-        Instr::LocalTee { index } => put_indexed(out, 0x22, index),
-        Instr::GlobalGet { index } => put_indexed(out, 0x23, index),
-        Instr::GlobalSet { index } => put_indexed(out, 0x24, index),
+        Instr::Drop => put_opcode(out, Form::Bare(Bare::Drop)),
+        Instr::Select { label } => put_form(out, label, Form::Select),
+        Instr::LocalGet { index } => put_indexed(out, Form::Indexed(Indexed::LocalGet), index),
+        Instr::LocalSet { index } => put_indexed(out, Form::Indexed(Indexed::LocalSet), index),
+        Instr::LocalTee { index } => put_indexed(out, Form::Indexed(Indexed::LocalTee), index),
+        Instr::GlobalGet { index } => put_indexed(out, Form::Indexed(Indexed::GlobalGet), index),
+        Instr::GlobalSet { index } => put_indexed(out, Form::Indexed(Indexed::GlobalSet), index),
         Instr::Load {
             width,
             label,
@@ -232,7 +186,17 @@ fn put_instr(out: &mut Vec<u8>, instr: &Instr) -> Result<(), AllocError>
             signed,
             align,
             offset,
-        } => put_access(out, label, load_code(width, bytes, signed), align, offset),
+        } => put_access(
+            out,
+            label,
+            Access::Load {
+                width,
+                bytes,
+                signed,
+            },
+            align,
+            offset,
+        ),
         Instr::Store {
             width,
             label,
@@ -240,50 +204,27 @@ fn put_instr(out: &mut Vec<u8>, instr: &Instr) -> Result<(), AllocError>
             align,
             offset,
             ..
-        } => put_access(out, label, store_code(width, bytes), align, offset),
-        Instr::MemorySize => put_reserved(out, 0x3F),
-        Instr::MemoryGrow => put_reserved(out, 0x40),
+        } => put_access(out, label, Access::Store { width, bytes }, align, offset),
+        Instr::MemorySize => put_reserved(out, Form::MemorySize),
+        Instr::MemoryGrow => put_reserved(out, Form::MemoryGrow),
         Instr::Const { width, label, bits } => put_const(out, width, label, bits),
-        Instr::Numeric { op, label } => put_form(out, label, op.code()),
-        Instr::Classify { width } => put_byte(out, classify_code(width)),
-        Instr::Declassify { width } => put_byte(out, declassify_code(width)),
-    }
-}
-
-/// The opcode of `classify`.
-fn classify_code(width: Width) -> u8
-    ensures { result ≡ classify_byte width }
-{
-    match width {
-        Width::W32 => 0xE1,
-        Width::W64 => 0xE2,
-    }
-}
-
-/// The opcode of `declassify`.
-fn declassify_code(width: Width) -> u8
-    ensures { result ≡ declassify_byte width }
-{
-    match width {
-        Width::W32 => 0xE3,
-        Width::W64 => 0xE4,
+        Instr::Numeric { op, label } => put_form(out, label, Form::Numeric(op)),
+        Instr::Classify { width } => put_opcode(out, Form::Bare(Bare::Classify(width))),
+        Instr::Declassify { width } => put_opcode(out, Form::Bare(Bare::Declassify(width))),
     }
 }
 
 /// A body's instructions with the closing end.
 pub(crate) fn put_body(out: &mut Vec<u8>, body: &Body) -> Result<(), AllocError>
     requires { (code : Code Label) × IsBody body.now code }
-    ensures { (code : Code Label) → IsBody body.now code → OnOk result (out.new.items ≡ out.old.items ++ body_text code) }
+    ensures { (code : Code Label) → IsBody body.now code
+        → OnOk result (out.new.items ≡ out.old.items ++ body_text code) }
 {
-    let end = body.code().len();
-    let mut at = 0;
-    while at < end {
-        match body.instr_at(at) {
-            Ok((instr, next)) => {
-                put_instr(out, &instr)?;
-                at = next;
-            }
-            Err(_) => return Ok(()), // never: an instruction is spelled there
+    let mut walk = Walk::new(body);
+    'opcodes: while !walk.is_done() {
+        match walk.next() {
+            Ok(instr) => put_instr(out, &instr)?,
+            Err(_) => unreachable!(),
         }
     }
     Ok(())

@@ -4,20 +4,19 @@ ghost use Rattle.ctw_ops.specs.ValueType.{ValueType};
 ghost use Rattle.ctw_ops.specs.declared.types.Label.{Label};
 ghost use Rattle.ctw_ops.specs.Tree.{Function, type_named, function_entries};
 ghost use Rattle.ctw_leb.specs.Spelling.{u32_text};
-ghost use Rattle.ctw_module.specs.Sections.{Group};
-ghost use Rattle.ctw_module.specs.Spelled.{group_of};
+ghost use Rattle.ctw_form.specs.Sections.{Group};
+ghost use Rattle.ctw_form.specs.Spelled.{group_of};
 ghost use Rattle.ctw_module.specs.Trees.{tree};
 ghost use Rattle.ctw_module.specs.Lookup.{function_named, imported_count, locals_named};
 ghost use Rattle.ctw_write.specs.Canon.{all_texts, vector_text, groups_of, group_text, body_text, code_text, items_text, canon};
-ghost use Rattle.ctw_write.specs.Counts.{IsCountOf};
 ghost use Rattle.ctw_write.specs.Runs.{Ahead};
 
 use crate::code::put_body;
-use crate::imports::Imported;
-use crate::text::{put_section, put_sized, type_code};
+use crate::text::{put_section, put_sized};
+use ctw_flat::byte_of_type;
 use ctw_leb::put_u32;
 use ctw_module::Module;
-use ctw_ops::{FuncType, ValType};
+use ctw_ops::{ExternTag, FuncType, ValType};
 use std::alloc::{AllocError, Global};
 
 /// A run of equal locals that isn't written yet, behind groups that are.
@@ -36,7 +35,7 @@ fn put_group(out: &mut Vec<u8>, count: u32, ty: ValType) -> Result<(), AllocErro
     ensures { OnOk result (out.new.items ≡ out.old.items ++ group_text (group_of count ty)) }
 {
     put_u32(out, count)?;
-    out.push(type_code(ty))?;
+    out.push(byte_of_type(ty))?;
     Ok(())
 }
 
@@ -44,7 +43,8 @@ fn put_group(out: &mut Vec<u8>, count: u32, ty: ValType) -> Result<(), AllocErro
 fn with_local(out: &mut Vec<u8>, run: Run, ty: ValType) -> Result<Run, AllocError>
     requires some { 0 < run.count }
     requires room { run.groups + run.count + 1 < 2 ^ 32 }
-    ensures ahead { (whole : List Group) (types : List (ValueType Label)) → Ahead whole out.old.items run (ty ∷ types) → IfOk result (λ next. Ahead whole out.new.items next types) }
+    ensures ahead { (whole : List Group) (types : List (ValueType Label)) → Ahead whole out.old.items run (ty ∷ types)
+        → IfOk result (λ next. Ahead whole out.new.items next types) }
     ensures some { IfOk result (λ next. 0 < next.count) }
     ensures room { IfOk result (λ next. next.groups + next.count ≤ run.groups + run.count + 1) }
 {
@@ -53,7 +53,7 @@ fn with_local(out: &mut Vec<u8>, run: Run, ty: ValType) -> Result<Run, AllocErro
         count,
         ty: own,
     } = run;
-    if type_code(ty) == type_code(own) {
+    if byte_of_type(ty) == byte_of_type(own) {
         return Ok(Run {
             groups,
             count: count + 1,
@@ -72,7 +72,8 @@ fn with_local(out: &mut Vec<u8>, run: Run, ty: ValType) -> Result<Run, AllocErro
 fn param_count(m: &Module, f: u32) -> u32
     requires there { f < length (function_entries (tree m.now)) }
     requires short { length (canon (tree m.now)) < 2 ^ 32 }
-    ensures { (function : Function Label) → function_named (tree m.now) f ≡ Some function → result ≡ length (type_named (tree m.now) function.type).params }
+    ensures { (function : Function Label) → function_named (tree m.now) f ≡ Some function
+        → result ≡ length (type_named (tree m.now) function.type).params }
 {
     let index = m.type_of_func(f);
     if index >= m.type_count() {
@@ -94,7 +95,8 @@ fn params_of(ty: &FuncType) -> u32
 fn put_locals(alloc: Global, out: &mut Vec<u8>, m: &Module, f: u32) -> Result<(), AllocError>
     requires named { (function : Function Label) × (function_named (tree m.now) f ≡ Some function) }
     requires short { length (canon (tree m.now)) < 2 ^ 32 }
-    ensures { (function : Function Label) → function_named (tree m.now) f ≡ Some function → OnOk result (out.new.items ≡ out.old.items ++ vector_text group_text (groups_of function.locals)) }
+    ensures { (function : Function Label) → function_named (tree m.now) f ≡ Some function
+        → OnOk result (out.new.items ≡ out.old.items ++ vector_text group_text (groups_of function.locals)) }
 {
     let first = param_count(m, f);
     let count = m.local_count(f) - first;
@@ -119,19 +121,22 @@ fn put_locals(alloc: Global, out: &mut Vec<u8>, m: &Module, f: u32) -> Result<()
 /// The instructions of a defined function.
 fn put_instructions(out: &mut Vec<u8>, m: &Module, f: u32) -> Result<(), AllocError>
     requires { (function : Function Label) × (function_named (tree m.now) f ≡ Some function) }
-    ensures { (function : Function Label) → function_named (tree m.now) f ≡ Some function → OnOk result (out.new.items ≡ out.old.items ++ body_text function.body) }
+    ensures { (function : Function Label) → function_named (tree m.now) f ≡ Some function
+        → OnOk result (out.new.items ≡ out.old.items ++ body_text function.body) }
 {
-    match m.body(f) {
-        Some(body) => put_body(out, &body),
-        None => Ok(()), // never: it is defined
-    }
+    let Some(body) = m.body(f) else {
+        unreachable!();
+    };
+    put_body(out, &body)
 }
 
 /// The code of a defined function.
 fn put_entry(alloc: Global, out: &mut Vec<u8>, m: &Module, f: u32) -> Result<(), AllocError>
-    requires named { (function : Function Label) × (function_named (tree m.now) f ≡ Some function) × (length (code_text function) < 2 ^ 32) }
+    requires named { (function : Function Label) × (function_named (tree m.now) f ≡ Some function)
+        × (length (code_text function) < 2 ^ 32) }
     requires short { length (canon (tree m.now)) < 2 ^ 32 }
-    ensures { (function : Function Label) → function_named (tree m.now) f ≡ Some function → OnOk result (out.new.items ≡ out.old.items ++ code_text function) }
+    ensures { (function : Function Label) → function_named (tree m.now) f ≡ Some function
+        → OnOk result (out.new.items ≡ out.old.items ++ code_text function) }
 {
     let mut entry = Vec::new(alloc);
     put_locals(alloc, &mut entry, m, f)?;
@@ -140,34 +145,28 @@ fn put_entry(alloc: Global, out: &mut Vec<u8>, m: &Module, f: u32) -> Result<(),
 }
 
 /// The code of the defined functions behind their count.
-fn codes(alloc: Global, out: &mut Vec<u8>, m: &Module, imported: Imported) -> Result<(), AllocError>
-    requires count { IsCountOf (tree m.now).imports imported }
-    requires short { length (canon (tree m.now)) < 2 ^ 32 }
+fn codes(alloc: Global, out: &mut Vec<u8>, m: &Module) -> Result<(), AllocError>
+    requires { length (canon (tree m.now)) < 2 ^ 32 }
     ensures { OnOk result (out.new.items ≡ out.old.items ++ vector_text code_text (tree m.now).functions) }
 {
-    let count = m.func_count() - imported.functions;
+    let imported = m.imported_count(ExternTag::Func);
+    let count = m.func_count() - imported;
     put_u32(out, count)?;
     for i in 0..count {
-        put_entry(alloc, out, m, imported.functions + i)?;
+        put_entry(alloc, out, m, imported + i)?;
     }
     Ok(())
 }
 
 /// The section of code, if there are defined functions.
-pub(crate) fn put_codes(
-    alloc: Global,
-    out: &mut Vec<u8>,
-    m: &Module,
-    imported: Imported,
-) -> Result<(), AllocError>
-    requires count { IsCountOf (tree m.now).imports imported }
-    requires short { length (canon (tree m.now)) < 2 ^ 32 }
+pub(crate) fn put_codes(alloc: Global, out: &mut Vec<u8>, m: &Module) -> Result<(), AllocError>
+    requires { length (canon (tree m.now)) < 2 ^ 32 }
     ensures { OnOk result (out.new.items ≡ out.old.items ++ items_text 10 code_text (tree m.now).functions) }
 {
-    if m.func_count() == imported.functions {
+    if m.func_count() == m.imported_count(ExternTag::Func) {
         return Ok(());
     }
     let mut contents = Vec::new(alloc);
-    codes(alloc, &mut contents, m, imported)?;
+    codes(alloc, &mut contents, m)?;
     put_section(out, 10, &contents)
 }

@@ -3,7 +3,7 @@ ghost use Rattle.std.specs.Prelude.{◌≡◌, ◌≤◌, ℕ, List, length};
 ghost use Rattle.ctw_ops.specs.declared.types.Label.{Label};
 ghost use Rattle.ctw_ops.specs.Tree.{Module};
 ghost use Rattle.ctw_ops.specs.Valid.{IsFormed};
-ghost use Rattle.ctw_module.specs.Spelled.{Spells};
+ghost use Rattle.ctw_form.specs.Spelled.{Spells};
 ghost use Rattle.ctw_write.specs.Canon.{canon};
 ghost use Rattle.ctw_write.specs.KeepsLimits.{KeepsLimits};
 
@@ -22,8 +22,8 @@ pub fn formed_modules_are_spelled()
     ensures only { (m n : Module Label) → IsFormed m → KeepsLimits m → Spells (canon m) n → n ≡ m }
 {}
 
-/// What bytes spell keeps the limits of files, as it is formed: so the modules that are spelled by any bytes are exactly
-/// those that are formed and keep the limits.
+/// What bytes spell keeps the limits of files, as it is formed: so the modules that are spelled by any bytes are
+/// exactly those that are formed and keep the limits.
 pub fn spelled_modules_keep_limits()
     ensures { (bytes : List ℕ) (m : Module Label) → Spells bytes m → KeepsLimits m }
 {}

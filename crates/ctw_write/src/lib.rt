@@ -3,7 +3,6 @@
 
 mod code;
 mod entry;
-mod imports;
 pub mod laws;
 mod section;
 mod text;

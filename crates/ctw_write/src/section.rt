@@ -4,21 +4,18 @@ ghost use Rattle.ctw_ops.specs.declared.types.Label.{Label};
 ghost use Rattle.ctw_ops.specs.Tree.{Global as TreeGlobal, Element as TreeElement, Segment as TreeSegment, Custom as TreeCustom};
 ghost use Rattle.ctw_ops.specs.Typing.{optional};
 ghost use Rattle.ctw_leb.specs.Spelling.{u32_text};
-ghost use Rattle.ctw_module.specs.Spelled.{Spells};
 ghost use Rattle.ctw_module.specs.Trees.{tree};
-ghost use Rattle.ctw_module.specs.Shown.{constant_of};
+ghost use Rattle.ctw_form.specs.Shown.{constant_of};
 ghost use Rattle.ctw_write.specs.Canon.{vector_text, type_entry_text, import_text, table_text, memory_text, global_text, export_text, element_text, segment_text, items_text, start_text, custom_text, customs_text, canon};
 ghost use Rattle.ctw_ops.specs.Valid.{IsFitting};
-ghost use Rattle.ctw_write.specs.Counts.{IsCountOf};
 
-use crate::imports::Imported;
 use crate::text::{
     put_element, put_export, put_global, put_import, put_memory, put_section, put_segment,
     put_sized, put_table, put_type_entry,
 };
 use ctw_leb::put_u32;
 use ctw_module::{Custom, Global1, Module};
-use ctw_ops::{Limits, MemType};
+use ctw_ops::ExternTag;
 use std::alloc::{AllocError, Global};
 
 /// The type entries behind their count.
@@ -51,14 +48,14 @@ fn imports(out: &mut Vec<u8>, m: &Module) -> Result<(), AllocError>
 }
 
 /// The type indexes of the defined functions behind their count.
-fn uses(out: &mut Vec<u8>, m: &Module, imported: Imported) -> Result<(), AllocError>
-    requires { IsCountOf (tree m.now).imports imported }
+fn uses(out: &mut Vec<u8>, m: &Module) -> Result<(), AllocError>
     ensures { OnOk result (out.new.items ≡ out.old.items ++ vector_text (λ f. u32_text f.type) (tree m.now).functions) }
 {
-    let count = m.func_count() - imported.functions;
+    let imported = m.imported_count(ExternTag::Func);
+    let count = m.func_count() - imported;
     put_u32(out, count)?;
     for i in 0..count {
-        put_u32(out, m.type_of_func(imported.functions + i))?;
+        put_u32(out, m.type_of_func(imported + i))?;
     }
     Ok(())
 }
@@ -79,26 +76,28 @@ fn exports(out: &mut Vec<u8>, m: &Module) -> Result<(), AllocError>
 
 /// A defined global of a view.
 fn put_defined(out: &mut Vec<u8>, global: Global1) -> Result<(), AllocError>
-    requires { (tree : TreeGlobal Label) × (global.ty ≡ tree.type) × (option_map constant_of global.init ≡ Some tree.init) × IsFitting tree.init }
-    ensures { (tree : TreeGlobal Label) → global.ty ≡ tree.type → option_map constant_of global.init ≡ Some tree.init → OnOk result (out.new.items ≡ out.old.items ++ global_text tree) }
+    requires { (tree : TreeGlobal Label) × (global.ty ≡ tree.type)
+        × (option_map constant_of global.init ≡ Some tree.init) × IsFitting tree.init }
+    ensures { (tree : TreeGlobal Label) → global.ty ≡ tree.type → option_map constant_of global.init ≡ Some tree.init
+        → OnOk result (out.new.items ≡ out.old.items ++ global_text tree) }
 {
     let Global1 { ty, init } = global;
-    match init {
-        Some(init) => put_global(out, ty, init),
-        None => Ok(()), // never: a defined global has an initial value
-    }
+    let Some(init) = init else {
+        unreachable!();
+    };
+    put_global(out, ty, init)
 }
 
 /// The defined globals behind their count.
-fn globals(out: &mut Vec<u8>, m: &Module, imported: Imported) -> Result<(), AllocError>
-    requires count { IsCountOf (tree m.now).imports imported }
-    requires fits { All (λ g. IsFitting g.init) (tree m.now).globals }
+fn globals(out: &mut Vec<u8>, m: &Module) -> Result<(), AllocError>
+    requires { All (λ g. IsFitting g.init) (tree m.now).globals }
     ensures { OnOk result (out.new.items ≡ out.old.items ++ vector_text global_text (tree m.now).globals) }
 {
-    let count = m.global_count() - imported.globals;
+    let imported = m.imported_count(ExternTag::Global);
+    let count = m.global_count() - imported;
     put_u32(out, count)?;
     for i in 0..count {
-        put_defined(out, m.global(imported.globals + i))?;
+        put_defined(out, m.global(imported + i))?;
     }
     Ok(())
 }
@@ -107,32 +106,21 @@ fn globals(out: &mut Vec<u8>, m: &Module, imported: Imported) -> Result<(), Allo
 fn put_nth_element(out: &mut Vec<u8>, m: &Module, i: u32) -> Result<(), AllocError>
     requires there { i < length (tree m.now).elements }
     requires fits { All (λ e. IsFitting e.offset) (tree m.now).elements }
-    ensures { (element : TreeElement Label) → slice_get (tree m.now).elements i ≡ Some element → OnOk result (out.new.items ≡ out.old.items ++ element_text element) }
+    ensures { (element : TreeElement Label) → slice_get (tree m.now).elements i ≡ Some element
+        → OnOk result (out.new.items ≡ out.old.items ++ element_text element) }
 {
-    match m.element(i) {
-        Some(element) => put_element(out, &element),
-        None => Ok(()), // never: it is there
-    }
-}
-
-/// How many elements there are.
-fn element_count(m: &Module) -> u32
-    requires { length (tree m.now).elements < 2 ^ 32 }
-    ensures { result ≡ length (tree m.now).elements }
-{
-    let mut count = 0;
-    while m.element(count).is_some() {
-        count += 1;
-    }
-    count
+    let Some(element) = m.element(i) else {
+        unreachable!();
+    };
+    put_element(out, &element)
 }
 
 /// The elements behind their count.
-fn elements(out: &mut Vec<u8>, m: &Module, count: u32) -> Result<(), AllocError>
-    requires count { count ≡ length (tree m.now).elements }
-    requires fits { All (λ e. IsFitting e.offset) (tree m.now).elements }
+fn elements(out: &mut Vec<u8>, m: &Module) -> Result<(), AllocError>
+    requires { All (λ e. IsFitting e.offset) (tree m.now).elements }
     ensures { OnOk result (out.new.items ≡ out.old.items ++ vector_text element_text (tree m.now).elements) }
 {
+    let count = m.element_count();
     put_u32(out, count)?;
     for i in 0..count {
         put_nth_element(out, m, i)?;
@@ -145,33 +133,22 @@ fn put_nth_segment(out: &mut Vec<u8>, m: &Module, i: u32) -> Result<(), AllocErr
     requires there { i < length (tree m.now).segments }
     requires fits { All (λ s. IsFitting s.offset) (tree m.now).segments }
     requires short { length (items_text 11 segment_text (tree m.now).segments) < 2 ^ 32 }
-    ensures { (segment : TreeSegment Label) → slice_get (tree m.now).segments i ≡ Some segment → OnOk result (out.new.items ≡ out.old.items ++ segment_text segment) }
+    ensures { (segment : TreeSegment Label) → slice_get (tree m.now).segments i ≡ Some segment
+        → OnOk result (out.new.items ≡ out.old.items ++ segment_text segment) }
 {
-    match m.segment(i) {
-        Some(segment) => put_segment(out, &segment),
-        None => Ok(()), // never: it is there
-    }
-}
-
-/// How many data segments there are.
-fn segment_count(m: &Module) -> u32
-    requires { length (tree m.now).segments < 2 ^ 32 }
-    ensures { result ≡ length (tree m.now).segments }
-{
-    let mut count = 0;
-    while m.segment(count).is_some() {
-        count += 1;
-    }
-    count
+    let Some(segment) = m.segment(i) else {
+        unreachable!();
+    };
+    put_segment(out, &segment)
 }
 
 /// The data segments behind their count.
-fn segments(out: &mut Vec<u8>, m: &Module, count: u32) -> Result<(), AllocError>
-    requires count { count ≡ length (tree m.now).segments }
+fn segments(out: &mut Vec<u8>, m: &Module) -> Result<(), AllocError>
     requires fits { All (λ s. IsFitting s.offset) (tree m.now).segments }
     requires short { length (items_text 11 segment_text (tree m.now).segments) < 2 ^ 32 }
     ensures { OnOk result (out.new.items ≡ out.old.items ++ vector_text segment_text (tree m.now).segments) }
 {
+    let count = m.segment_count();
     put_u32(out, count)?;
     for i in 0..count {
         put_nth_segment(out, m, i)?;
@@ -214,15 +191,15 @@ pub(crate) fn put_customs(
     m: &Module,
     place: u8,
 ) -> Result<(), AllocError>
-    requires few { length (tree m.now).customs < 2 ^ 32 }
     requires short { length (canon (tree m.now)) < 2 ^ 32 }
     requires place { place < 12 }
     ensures { OnOk result (out.new.items ≡ out.old.items ++ customs_text place (tree m.now).customs) }
 {
-    let mut i = 0;
-    while let Some(custom) = m.custom(i) {
+    for i in 0..m.custom_count() {
+        let Some(custom) = m.custom(i) else {
+            unreachable!();
+        };
         put_placed(alloc, out, &custom, place)?;
-        i += 1;
     }
     Ok(())
 }
@@ -254,63 +231,25 @@ pub(crate) fn put_imports(alloc: Global, out: &mut Vec<u8>, m: &Module) -> Resul
 }
 
 /// The section of the defined functions' types, if there are some.
-pub(crate) fn put_uses(
-    alloc: Global,
-    out: &mut Vec<u8>,
-    m: &Module,
-    imported: Imported,
-) -> Result<(), AllocError>
-    requires short { length (canon (tree m.now)) < 2 ^ 32 }
-    requires count { IsCountOf (tree m.now).imports imported }
-    ensures { OnOk result (out.new.items ≡ out.old.items ++ items_text 3 (λ f. u32_text f.type) (tree m.now).functions) }
+pub(crate) fn put_uses(alloc: Global, out: &mut Vec<u8>, m: &Module) -> Result<(), AllocError>
+    requires { length (canon (tree m.now)) < 2 ^ 32 }
+    ensures { OnOk result (out.new.items
+        ≡ out.old.items ++ items_text 3 (λ f. u32_text f.type) (tree m.now).functions) }
 {
-    if m.func_count() == imported.functions {
+    if m.func_count() == m.imported_count(ExternTag::Func) {
         return Ok(());
     }
     let mut contents = Vec::new(alloc);
-    uses(&mut contents, m, imported)?;
+    uses(&mut contents, m)?;
     put_section(out, 3, &contents)
 }
 
-/// The defined table.
-fn defined_table(m: &Module, imported: Imported) -> Option<Limits>
-    requires spelled { Spells m.now.bytes (tree m.now) }
-    requires count { IsCountOf (tree m.now).imports imported }
-    ensures { result ≡ (tree m.now).table }
-{
-    if imported.tables == 0 {
-        m.table()
-    } else {
-        None
-    }
-}
-
-/// The defined memory.
-fn defined_memory(m: &Module, imported: Imported) -> Option<MemType>
-    requires spelled { Spells m.now.bytes (tree m.now) }
-    requires count { IsCountOf (tree m.now).imports imported }
-    ensures { result ≡ (tree m.now).memory }
-{
-    if imported.memories == 0 {
-        m.memory()
-    } else {
-        None
-    }
-}
-
 /// The section of the defined table, if there is one.
-pub(crate) fn put_tables(
-    alloc: Global,
-    out: &mut Vec<u8>,
-    m: &Module,
-    imported: Imported,
-) -> Result<(), AllocError>
-    requires short { length (canon (tree m.now)) < 2 ^ 32 }
-    requires spelled { Spells m.now.bytes (tree m.now) }
-    requires count { IsCountOf (tree m.now).imports imported }
+pub(crate) fn put_tables(alloc: Global, out: &mut Vec<u8>, m: &Module) -> Result<(), AllocError>
+    requires { length (canon (tree m.now)) < 2 ^ 32 }
     ensures { OnOk result (out.new.items ≡ out.old.items ++ items_text 4 table_text (optional (tree m.now).table)) }
 {
-    match defined_table(m, imported) {
+    match m.defined_table() {
         None => Ok(()),
         Some(limits) => {
             let mut contents = Vec::new(alloc);
@@ -322,18 +261,11 @@ pub(crate) fn put_tables(
 }
 
 /// The section of the defined memory, if there is one.
-pub(crate) fn put_memories(
-    alloc: Global,
-    out: &mut Vec<u8>,
-    m: &Module,
-    imported: Imported,
-) -> Result<(), AllocError>
-    requires short { length (canon (tree m.now)) < 2 ^ 32 }
-    requires spelled { Spells m.now.bytes (tree m.now) }
-    requires count { IsCountOf (tree m.now).imports imported }
+pub(crate) fn put_memories(alloc: Global, out: &mut Vec<u8>, m: &Module) -> Result<(), AllocError>
+    requires { length (canon (tree m.now)) < 2 ^ 32 }
     ensures { OnOk result (out.new.items ≡ out.old.items ++ items_text 5 memory_text (optional (tree m.now).memory)) }
 {
-    match defined_memory(m, imported) {
+    match m.defined_memory() {
         None => Ok(()),
         Some(ty) => {
             let mut contents = Vec::new(alloc);
@@ -345,22 +277,16 @@ pub(crate) fn put_memories(
 }
 
 /// The section of the defined globals, if there are some.
-pub(crate) fn put_globals(
-    alloc: Global,
-    out: &mut Vec<u8>,
-    m: &Module,
-    imported: Imported,
-) -> Result<(), AllocError>
+pub(crate) fn put_globals(alloc: Global, out: &mut Vec<u8>, m: &Module) -> Result<(), AllocError>
     requires short { length (canon (tree m.now)) < 2 ^ 32 }
-    requires count { IsCountOf (tree m.now).imports imported }
     requires fits { All (λ g. IsFitting g.init) (tree m.now).globals }
     ensures { OnOk result (out.new.items ≡ out.old.items ++ items_text 6 global_text (tree m.now).globals) }
 {
-    if m.global_count() == imported.globals {
+    if m.global_count() == m.imported_count(ExternTag::Global) {
         return Ok(());
     }
     let mut contents = Vec::new(alloc);
-    globals(&mut contents, m, imported)?;
+    globals(&mut contents, m)?;
     put_section(out, 6, &contents)
 }
 
@@ -395,31 +321,27 @@ pub(crate) fn put_start(alloc: Global, out: &mut Vec<u8>, m: &Module) -> Result<
 /// The section of elements, if there are some.
 pub(crate) fn put_elements(alloc: Global, out: &mut Vec<u8>, m: &Module) -> Result<(), AllocError>
     requires short { length (canon (tree m.now)) < 2 ^ 32 }
-    requires few { length (tree m.now).elements < 2 ^ 32 }
     requires fits { All (λ e. IsFitting e.offset) (tree m.now).elements }
     ensures { OnOk result (out.new.items ≡ out.old.items ++ items_text 9 element_text (tree m.now).elements) }
 {
-    let count = element_count(m);
-    if count == 0 {
+    if m.element_count() == 0 {
         return Ok(());
     }
     let mut contents = Vec::new(alloc);
-    elements(&mut contents, m, count)?;
+    elements(&mut contents, m)?;
     put_section(out, 9, &contents)
 }
 
 /// The section of data segments, if there are some.
 pub(crate) fn put_segments(alloc: Global, out: &mut Vec<u8>, m: &Module) -> Result<(), AllocError>
     requires short { length (canon (tree m.now)) < 2 ^ 32 }
-    requires few { length (tree m.now).segments < 2 ^ 32 }
     requires fits { All (λ s. IsFitting s.offset) (tree m.now).segments }
     ensures { OnOk result (out.new.items ≡ out.old.items ++ items_text 11 segment_text (tree m.now).segments) }
 {
-    let count = segment_count(m);
-    if count == 0 {
+    if m.segment_count() == 0 {
         return Ok(());
     }
     let mut contents = Vec::new(alloc);
-    segments(&mut contents, m, count)?;
+    segments(&mut contents, m)?;
     put_section(out, 11, &contents)
 }

@@ -2,13 +2,14 @@
 ghost use Rattle.std.specs.Prelude.{◌≡◌, ◌<◌, ◌^◌, ◌++◌, ◌∷◌, [], ℕ, List, length, OnOk, OnErr};
 ghost use Rattle.ctw_ops.specs.Types.{type_byte};
 ghost use Rattle.ctw_leb.specs.Spelling.{u32_text};
-ghost use Rattle.ctw_module.specs.Spelled.{export_of, global_of};
-ghost use Rattle.ctw_module.specs.Shown.{constant_of};
+ghost use Rattle.ctw_form.specs.Spelled.{export_of, global_of};
+ghost use Rattle.ctw_form.specs.Shown.{constant_of};
 ghost use Rattle.ctw_module.specs.Given.{extern_given, import_given};
 ghost use Rattle.ctw_write.specs.Canon.{vector_text, sized_text, section_text, type_text, trust_byte, entry_byte, signature_text, type_entry_text, limits_text, table_text, memory_text, variable_text, extern_text, import_text, kind_byte, export_text, constant_text, global_text, element_text, segment_text};
 ghost use Rattle.ctw_ops.specs.Valid.{IsFitting};
 
 use crate::code::put_const;
+use ctw_flat::{Bare, Form, Indexed, byte_of_type, opcode_of};
 use ctw_leb::put_u32;
 use ctw_module::{ConstExpr, Element, ExternKind, Import, Segment};
 use ctw_ops::{ExternTag, FuncType, GlobalType, Label, Limits, MemType, Trust, ValType, Width};
@@ -32,18 +33,6 @@ pub(crate) fn put_section(out: &mut Vec<u8>, id: u8, contents: &[u8]) -> Result<
 {
     out.push(id)?;
     put_sized(out, contents)
-}
-
-/// The byte of a value type.
-pub(crate) fn type_code(t: ValType) -> u8
-    ensures { result ≡ type_byte t }
-{
-    match (t.width, t.label) {
-        (Width::W32, Label::Public) => 0x7F,
-        (Width::W64, Label::Public) => 0x7E,
-        (Width::W32, Label::Secret) => 0x7A,
-        (Width::W64, Label::Secret) => 0x79,
-    }
 }
 
 /// A limit's sizes behind the byte that says which there are.
@@ -85,7 +74,7 @@ pub(crate) fn put_memory(out: &mut Vec<u8>, ty: MemType) -> Result<(), AllocErro
 pub(crate) fn put_variable(out: &mut Vec<u8>, ty: GlobalType) -> Result<(), AllocError>
     ensures { OnOk result (out.new.items ≡ out.old.items ++ variable_text ty) }
 {
-    out.push(type_code(ty.value))?;
+    out.push(byte_of_type(ty.value))?;
     out.push(u8::from(ty.mutable))?;
     Ok(())
 }
@@ -100,7 +89,7 @@ fn put_signature(out: &mut Vec<u8>, ty: &FuncType) -> Result<(), AllocError>
         None => put_u32(out, 0),
         Some(t) => {
             put_u32(out, 1)?;
-            out.push(type_code(t))?;
+            out.push(byte_of_type(t))?;
             Ok(())
         }
     }
@@ -225,11 +214,11 @@ pub(crate) fn put_constant(out: &mut Vec<u8>, value: ConstExpr) -> Result<(), Al
     match value {
         ConstExpr::Const { value, bits } => put_const(out, value.width, value.label, bits)?,
         ConstExpr::Get { global } => {
-            out.push(0x23)?;
+            out.push(opcode_of(Form::Indexed(Indexed::GlobalGet)))?;
             put_u32(out, global)?;
         }
     }
-    out.push(0x0B)?;
+    out.push(opcode_of(Form::Bare(Bare::End)))?;
     Ok(())
 }
 

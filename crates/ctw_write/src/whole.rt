@@ -1,14 +1,12 @@
 ghost use Rattle.std.specs.Prelude.{◌≡◌, ◌≤◌, ◌++◌, length, OnOk, IfOk};
 ghost use Rattle.ctw_ops.specs.Typing.{optional};
 ghost use Rattle.ctw_leb.specs.Spelling.{u32_text};
-ghost use Rattle.ctw_module.specs.Spelled.{Spells};
+ghost use Rattle.ctw_form.specs.Spelled.{Spells};
 ghost use Rattle.ctw_module.specs.Trees.{Lent, tree};
 ghost use Rattle.ctw_write.specs.Canon.{type_entry_text, import_text, table_text, memory_text, global_text, export_text, element_text, segment_text, code_text, items_text, start_text, customs_text, placed_text, sections_text, canon};
-ghost use Rattle.ctw_write.specs.Counts.{IsCountOf};
 ghost use Rattle.ctw_write.specs.Ready.{IsReady};
 
 use crate::entry::put_codes;
-use crate::imports::{Imported, count_imports};
 use crate::section::{
     put_customs, put_elements, put_exports, put_globals, put_imports, put_memories, put_segments,
     put_start, put_tables, put_types, put_uses,
@@ -39,22 +37,15 @@ fn put_sections(alloc: Global, out: &mut Vec<u8>, m: &Module) -> Result<(), Allo
     requires { IsReady m.now }
     ensures { OnOk result (out.new.items ≡ out.old.items ++ sections_text (tree m.now)) }
 {
-    let imported = count_imports(m);
-    put_declarations(alloc, out, m, imported)?;
-    put_spaces(alloc, out, m, imported)?;
+    put_declarations(alloc, out, m)?;
+    put_spaces(alloc, out, m)?;
     put_uses_of_spaces(alloc, out, m)?;
-    put_contents(alloc, out, m, imported)
+    put_contents(alloc, out, m)
 }
 
 /// The sections of types, imports and functions, with the custom sections up to them.
-fn put_declarations(
-    alloc: Global,
-    out: &mut Vec<u8>,
-    m: &Module,
-    imported: Imported,
-) -> Result<(), AllocError>
-    requires ready { IsReady m.now }
-    requires count { IsCountOf (tree m.now).imports imported }
+fn put_declarations(alloc: Global, out: &mut Vec<u8>, m: &Module) -> Result<(), AllocError>
+    requires { IsReady m.now }
     ensures { OnOk result (out.new.items ≡ out.old.items
         ++ customs_text 0 (tree m.now).customs
         ++ placed_text 1 (items_text 1 type_entry_text (tree m.now).types) (tree m.now).customs
@@ -66,29 +57,23 @@ fn put_declarations(
     put_customs(alloc, out, m, 1)?;
     put_imports(alloc, out, m)?;
     put_customs(alloc, out, m, 2)?;
-    put_uses(alloc, out, m, imported)?;
+    put_uses(alloc, out, m)?;
     put_customs(alloc, out, m, 3)
 }
 
 /// The sections of the defined table, memory and globals, with the custom sections behind them.
-fn put_spaces(
-    alloc: Global,
-    out: &mut Vec<u8>,
-    m: &Module,
-    imported: Imported,
-) -> Result<(), AllocError>
-    requires ready { IsReady m.now }
-    requires count { IsCountOf (tree m.now).imports imported }
+fn put_spaces(alloc: Global, out: &mut Vec<u8>, m: &Module) -> Result<(), AllocError>
+    requires { IsReady m.now }
     ensures { OnOk result (out.new.items ≡ out.old.items
         ++ placed_text 4 (items_text 4 table_text (optional (tree m.now).table)) (tree m.now).customs
         ++ placed_text 5 (items_text 5 memory_text (optional (tree m.now).memory)) (tree m.now).customs
         ++ placed_text 6 (items_text 6 global_text (tree m.now).globals) (tree m.now).customs) }
 {
-    put_tables(alloc, out, m, imported)?;
+    put_tables(alloc, out, m)?;
     put_customs(alloc, out, m, 4)?;
-    put_memories(alloc, out, m, imported)?;
+    put_memories(alloc, out, m)?;
     put_customs(alloc, out, m, 5)?;
-    put_globals(alloc, out, m, imported)?;
+    put_globals(alloc, out, m)?;
     put_customs(alloc, out, m, 6)
 }
 
@@ -109,19 +94,13 @@ fn put_uses_of_spaces(alloc: Global, out: &mut Vec<u8>, m: &Module) -> Result<()
 }
 
 /// The sections of code and data, with the custom sections behind them.
-fn put_contents(
-    alloc: Global,
-    out: &mut Vec<u8>,
-    m: &Module,
-    imported: Imported,
-) -> Result<(), AllocError>
-    requires ready { IsReady m.now }
-    requires count { IsCountOf (tree m.now).imports imported }
+fn put_contents(alloc: Global, out: &mut Vec<u8>, m: &Module) -> Result<(), AllocError>
+    requires { IsReady m.now }
     ensures { OnOk result (out.new.items ≡ out.old.items
         ++ placed_text 10 (items_text 10 code_text (tree m.now).functions) (tree m.now).customs
         ++ placed_text 11 (items_text 11 segment_text (tree m.now).segments) (tree m.now).customs) }
 {
-    put_codes(alloc, out, m, imported)?;
+    put_codes(alloc, out, m)?;
     put_customs(alloc, out, m, 10)?;
     put_segments(alloc, out, m)?;
     put_customs(alloc, out, m, 11)

@@ -1,5 +1,5 @@
 ghost use Rattle.std.specs.Prelude.{◌≡◌, ◌<◌, ◌^◌, ◌++◌, length, IfOk, OnOk, OnErr};
-ghost use Rattle.ctw_module.specs.Spelled.{magic, version};
+ghost use Rattle.ctw_form.specs.Spelled.{magic, version};
 ghost use Rattle.ctw_write.specs.Canon.{section_text};
 
 use crate::text::put_section;

@@ -1,5 +1,5 @@
 use Rattle.std.proofs.lemmas.Result.{err_from_is_err_and}
-use Rattle.ctw_module.specs.Spelled.{module_in}
+use Rattle.ctw_form.specs.Spelled.{module_in}
 use Rattle.ctw_read.proofs.ReadLaws.{file_spells, refused_spelled}
 use Rattle.ctw_read.proofs.read.Goals as goal
 

@@ -2,7 +2,7 @@ use Rattle.std.proofs.Common.{Err, sym, ap, ◌∙◌}
 use Rattle.std.proofs.lemmas.Result.{err_from_is_err_and}
 use Rattle.ctw_leb.proofs.Loops.{left_step}
 use Rattle.ctw_flat.specs.Read.{index_at}
-use Rattle.ctw_flat.proofs.Targets.{all_taken, targets_fault}
+use Rattle.ctw_flat.proofs.TargetBytes.{all_taken, targets_fault}
 use Rattle.ctw_flat.proofs.reading.targets.Goals as goal
 
 pub targets-preserved : goal.targets-preserved

@@ -10,7 +10,7 @@ returns-in_err-numbering-clause-complete c =
 pub invariant_of-result : goal.invariant_of-result
 invariant_of-result c =
     are_linked c.args.parts.items c.deref.result.now c.deref-2.result.now c.deref-3.result.now c.in_ok-numbering.numbering.parts.items c.in_ok-owners.owners.items c.in_ok-blocks.blocks.items
-    c.requires c.deref.ensures.value c.deref-2.ensures.value c.deref-3.ensures.value c.in_ok-numbering.ensures.fault c.in_ok-numbering.ensures.numbers c.in_ok-owners.ensures c.in_ok-blocks.ensures
+    c.requires c.deref.ensures.value c.deref-2.ensures.value c.deref-3.ensures.value c.in_ok-numbering.ensures.fault c.in_ok-numbering.ensures.numbers c.in_ok-owners.ensures.owners c.in_ok-blocks.ensures c.in_ok-owners.ensures.limits
 
 pub returns-clause-sound : goal.returns-clause-sound
 returns-clause-sound c = seen_matching c.args.parts.items c.deref.result.now c.deref.ensures.value c.in_ok-numbering.ensures.fault

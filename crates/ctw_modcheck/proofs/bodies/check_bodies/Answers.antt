@@ -12,13 +12,13 @@ functions-init c = reached_none _ _ 0
 pub functions-preserved : goal.functions-preserved
 functions-preserved c =
     let m = view_module c.args.m.now in
-    let d = defined_at m c.imported_functions-imported.result c.functions.i c.imported_functions-imported.ensures.count (omega arith) in
+    let d = defined_at m c.imported_count-imported.result c.functions.i c.imported_count-imported.ensures (omega arith) in
     bodies_more m _ c.functions.i d (c.in_ok-check_function_body.ensures d.function d.named) c.functions.invariant
 
 pub returns-in_err-check_function_body : goal.returns-in_err-check_function_body
 returns-in_err-check_function_body c =
     let m = view_module c.args.m.now in
-    let d = defined_at m c.imported_functions-imported.result c.functions.i c.imported_functions-imported.ensures.count (omega arith) in
+    let d = defined_at m c.imported_count-imported.result c.functions.i c.imported_count-imported.ensures (omega arith) in
     let p = err_from_is_err_and c.from_residual.result c.from_residual.ensures.1 in
     rw (p.1, p.2) (bodies_fail m _ c.functions.i d _ (c.in_err-check_function_body.ensures d.function d.named) c.functions.invariant)
 

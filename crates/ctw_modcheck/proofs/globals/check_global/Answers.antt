@@ -3,13 +3,13 @@ use Rattle.ctw_ops.specs.declared.types.Label.{Label}
 use Rattle.ctw_ops.specs.Types.{VariableType}
 use Rattle.ctw_ops.specs.Tree.{Constant}
 use Rattle.ctw_module.specs.Trees.{tree}
-use Rattle.ctw_module.specs.Shown.{constant_of}
+use Rattle.ctw_form.specs.Shown.{constant_of}
 use Rattle.ctw_modcheck.proofs.Counts.{GlobalAt, global_at}
 use Rattle.ctw_modcheck.proofs.Items.{is_initial, global_missing, global_wrong, global_right, global_begins}
 use Rattle.ctw_modcheck.proofs.globals.check_global.Goals as goal
 
-pub returns-in_default : goal.returns-in_default
-returns-in_default c =
+pub unreachable-requires : goal.unreachable-requires
+unreachable-requires c =
     let m = tree c.args.m.now in
     let h = global_at m c.args.imported c.args.i c.global-ty.result.ty (option_map constant_of c.global-ty.result.init) c.requires.count c.requires.there c.global-ty.ensures.typed c.global-ty.ensures.init in
     absurd (global_begins m c.args.i c.global-ty.result.ty (subst (λ (o : Option (Constant Label)). GlobalAt m c.args.i c.global-ty.result.ty o) (ap (option_map constant_of) c.in_default.is) h))

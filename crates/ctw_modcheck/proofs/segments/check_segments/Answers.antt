@@ -1,9 +1,8 @@
-use Rattle.std.proofs.Common.{arith, sym, ap, length}
+use Rattle.std.proofs.Common.{arith, sym}
 use Rattle.std.proofs.lemmas.Result.{err_from_is_err_and}
 use Rattle.ctw_module.specs.Trees.{tree}
 use Rattle.ctw_modcheck.specs.Faults.{segment_fault}
-use Rattle.ctw_modcheck.proofs.Counts.{few_segments}
-use Rattle.ctw_modcheck.proofs.Loops.{reached_none, reached_more, reached_fault, reached_all, at_item, none_past}
+use Rattle.ctw_modcheck.proofs.Loops.{reached_none, reached_more, reached_fault, reached_all, at_item}
 use Rattle.ctw_modcheck.proofs.segments.check_segments.Goals as goal
 
 pub segments-init : goal.segments-init
@@ -22,10 +21,5 @@ returns-in_err-check_segment c =
     let p = err_from_is_err_and c.from_residual.result c.from_residual.ensures.1 in
     rw (p.1, p.2) (reached_fault (segment_fault m) m.segments 0 c.segments.i _ here c.segments.invariant)
 
-pub returns-in_default : goal.returns-in_default
-returns-in_default c = reached_all _ _ 0 _ (none_past _ _ (sym c.in_default.ensures)) c.segments.invariant
-
 pub returns : goal.returns
-returns c =
-    let b = c.bytes.ensures in
-    reached_all _ _ 0 _ (omega (arith, few_segments c.args.m.now b.spelled, ap length b.bytes)) c.segments.invariant
+returns c = reached_all _ _ 0 _ (omega (arith, c.segment_count-i-end.ensures, c.segments-test.false)) c.segments.invariant

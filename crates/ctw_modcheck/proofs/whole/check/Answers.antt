@@ -1,7 +1,8 @@
 use Rattle.std.proofs.Common.{◌∙◌}
 use Rattle.std.proofs.lemmas.Result.{err_from_is_err_and}
 use Rattle.ctw_module.specs.Trees.{tree, view_module}
-use Rattle.ctw_modcheck.specs.Answers.{Finds}
+use Rattle.ctw_ops.specs.FirstFault.{FindsFault}
+use Rattle.ctw_modcheck.specs.declared.fault.Invalid.TheVariants.{NoMemory}
 use Rattle.ctw_modcheck.specs.Check.{fault_of}
 use Rattle.ctw_valid.proofs.Named.{typed_around}
 use Rattle.ctw_modcheck.proofs.Validity.{around_none}
@@ -20,7 +21,7 @@ returns-in_err-check_around c =
     let formed = view_formed c.args.m.now c.bytes-bytes.ensures.spelled in
     let p = err_from_is_err_and c.from_residual.result c.from_residual.ensures.1 in
     let h = around_first m _ (around_found c.args.m.now _ c.in_err-check_around.ensures) in
-    let f : Finds c.from_residual.result (fault_of m) = rw (p.1, p.2) h in
+    let f : FindsFault NoMemory c.from_residual.result (fault_of m) = rw (p.1, p.2) h in
     record { sound = is_sound m c.from_residual.result formed f; complete = is_complete m c.from_residual.result f; fault = is_fault m c.from_residual.result f; held = is_held m c.from_residual.result f }
 
 pub returns : goal.returns

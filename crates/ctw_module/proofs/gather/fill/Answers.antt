@@ -5,12 +5,12 @@ use Rattle.ctw_ops.specs.declared.types.Limits.{Limits}
 use Rattle.ctw_ops.specs.Types.{MemoryType}
 use Rattle.ctw_leb.specs.Input.{Input}
 use Rattle.ctw_leb.proofs.Exact.{ok_is}
-use Rattle.ctw_module.specs.declared.fault.FormFault.{FormFault}
-use Rattle.ctw_module.specs.declared.table.SectionKind.{SectionKind}
-use Rattle.ctw_module.specs.declared.table.SectionKind.TheVariants as kind
-use Rattle.ctw_module.specs.Sections.{Section, TableSection, MemorySection, CodeSection, with_section}
-use Rattle.ctw_module.specs.Spelled.{room}
-use Rattle.ctw_module.specs.Read.{insides_at, vector_upto_at, table_at, memory_at, codes_at}
+use Rattle.ctw_form.specs.declared.fault.FormFault.{FormFault}
+use Rattle.ctw_form.specs.declared.table.SectionKind.{SectionKind}
+use Rattle.ctw_form.specs.declared.table.SectionKind.TheVariants as kind
+use Rattle.ctw_form.specs.Sections.{Section, TableSection, MemorySection, CodeSection, with_section}
+use Rattle.ctw_form.specs.Spelled.{room}
+use Rattle.ctw_form.specs.Read.{insides_at, vector_upto_at, table_at, memory_at, codes_at}
 use Rattle.ctw_module.specs.Gathers.{Gathers}
 use Rattle.ctw_module.proofs.Filling.{only_found, upto_one}
 use Rattle.ctw_module.proofs.gather.fill.Goals as goal

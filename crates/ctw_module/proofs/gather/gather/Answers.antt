@@ -1,7 +1,7 @@
 use Rattle.std.proofs.Common.{length, ap, subst, arith}
 use Rattle.ctw_leb.specs.Input.{Input}
 use Rattle.ctw_module.specs.Gathers.{IsMemory}
-use Rattle.ctw_module.proofs.SectionForms.{section_shorter}
+use Rattle.ctw_form.proofs.SectionForms.{section_shorter}
 use Rattle.ctw_module.proofs.Filling.{going_start, going_next, going_step, going_end}
 use Rattle.ctw_module.proofs.gather.gather.Goals as goal
 

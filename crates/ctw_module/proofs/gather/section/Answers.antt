@@ -1,7 +1,7 @@
 use Rattle.std.proofs.Common.{sym, ◌∙◌}
 use Rattle.std.proofs.lemmas.Result.{err_from_is_err_and}
 use Rattle.ctw_leb.proofs.Exact.{err_ok}
-use Rattle.ctw_module.specs.Sections.{with_section}
+use Rattle.ctw_form.specs.Sections.{with_section}
 use Rattle.ctw_module.proofs.Filling.{in_section, in_section_kind, in_section_window, takes_window}
 use Rattle.ctw_module.proofs.gather.section.Goals as goal
 

@@ -1,6 +1,6 @@
 use Rattle.std.proofs.Common.{sym, ap, ◌∙◌, rules}
 use Rattle.std.specs.Option.{option_copied}
-use Rattle.ctw_module.proofs.Runs.{run_last, run_none}
+use Rattle.ctw_form.proofs.Runs.{run_last, run_none}
 use Rattle.ctw_module.proofs.locals.count_of.Goals as goal
 
 pub returns-in-Some : goal.returns-in-Some

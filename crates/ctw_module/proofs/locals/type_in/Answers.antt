@@ -1,5 +1,5 @@
 use Rattle.std.proofs.Common.{arith, refl}
-use Rattle.ctw_module.proofs.Runs.{halved_start, halved_up, halved_down, halved_end}
+use Rattle.ctw_form.proofs.Runs.{halved_start, halved_up, halved_down, halved_end}
 use Rattle.ctw_module.proofs.locals.type_in.Goals as goal
 
 pub halves-init : goal.halves-init

@@ -1,5 +1,5 @@
 use Rattle.std.proofs.Common.{◌-◌}
-use Rattle.ctw_module.proofs.Runs.{Halved}
+use Rattle.ctw_form.proofs.Runs.{Halved}
 use Rattle.ctw_module.proofs.locals.type_in.Given as goal
 
 abbrev pub invariant-halves : goal.invariant-halves

@@ -1,7 +1,7 @@
 use Rattle.std.proofs.Common.{◌++◌, [], ap, sym, ◌∙◌}
 use Rattle.ctw_ops.specs.declared.types.Label.{Label}
 use Rattle.ctw_ops.specs.Tree.{Import, Extern, with_function}
-use Rattle.ctw_module.specs.Shown.{extern_of}
+use Rattle.ctw_form.specs.Shown.{extern_of}
 use Rattle.ctw_module.proofs.Indexing.{functions_next, functions_pass}
 use Rattle.ctw_module.proofs.viewing.all_functions.Goals as goal
 use Rattle.ctw_module.proofs.viewing.all_functions.Goals.{in-Func+in_ok-push, in_default}

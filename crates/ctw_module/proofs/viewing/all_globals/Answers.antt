@@ -1,7 +1,7 @@
 use Rattle.std.proofs.Common.{◌∷◌, [], None, take, ◌+◌, ap, sym, subst, map, ◌∙◌}
 use Rattle.ctw_ops.specs.declared.types.Label.{Label}
 use Rattle.ctw_ops.specs.Tree.{Import, Extern, with_global}
-use Rattle.ctw_module.specs.Shown.{extern_of}
+use Rattle.ctw_form.specs.Shown.{extern_of}
 use Rattle.ctw_module.proofs.Indexing.{GlobalsAre, globals_next, globals_pass, no_init}
 use Rattle.ctw_module.proofs.viewing.all_globals.Goals as goal
 use Rattle.ctw_module.proofs.viewing.all_globals.Goals.{in-Global+in_ok-push, in_default}

@@ -1,5 +1,5 @@
 use Rattle.std.proofs.Common.{subst, refl}
-use Rattle.ctw_module.specs.Sections.{Parts}
+use Rattle.ctw_form.specs.Sections.{Parts}
 use Rattle.ctw_module.specs.Gathers.{Gathers}
 use Rattle.ctw_module.specs.Trees.{view_of}
 use Rattle.ctw_module.proofs.Indexing.{sections_read, spelled_tree, ct_made, parts_made, trees_told}

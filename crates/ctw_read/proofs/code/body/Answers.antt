@@ -1,8 +1,8 @@
 use Rattle.std.proofs.Common.{◌≡◌, length, arith, sym, subst}
 use Rattle.std.proofs.lemmas.Bool.{eqb-true, eqb-false}
 use Rattle.std.proofs.lemmas.Result.{err_from_is_err_and}
-use Rattle.ctw_module.specs.Read.{form_body_at}
-use Rattle.ctw_module.proofs.SectionForms.{form_step_shorter}
+use Rattle.ctw_form.specs.Read.{form_body_at}
+use Rattle.ctw_form.proofs.SectionForms.{form_step_shorter}
 use Rattle.ctw_read.specs.declared.fault.ReadFault.{ReadFault}
 use Rattle.ctw_read.specs.Calls.{FailsWith}
 use Rattle.ctw_read.proofs.CodeLoops.{body_goes, body_fails, body_done, body_open}

@@ -1,6 +1,6 @@
 use Rattle.std.proofs.lemmas.Result.{err_from_is_err_and}
-use Rattle.ctw_module.specs.Read.{entry_insides_at, code_entry_at}
-use Rattle.ctw_module.proofs.SizedWindows.{sized_ok, sized_short}
+use Rattle.ctw_form.specs.Read.{entry_insides_at, code_entry_at}
+use Rattle.ctw_form.proofs.SizedWindows.{sized_ok, sized_short}
 use Rattle.ctw_read.proofs.CodeLoops.{sized_fails}
 use Rattle.ctw_read.proofs.code.entry.Goals as goal
 

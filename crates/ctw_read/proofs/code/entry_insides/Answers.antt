@@ -1,5 +1,5 @@
 use Rattle.std.proofs.Common.{refl}
-use Rattle.ctw_module.specs.Read.{entry_insides_at}
+use Rattle.ctw_form.specs.Read.{entry_insides_at}
 use Rattle.ctw_read.proofs.code.entry_insides.Goals as goal
 
 pub returns-clause-entry : goal.returns-clause-entry

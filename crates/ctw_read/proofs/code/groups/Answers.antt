@@ -1,6 +1,6 @@
 use Rattle.ctw_leb.proofs.Loops.{left_from_step}
-use Rattle.ctw_module.specs.Spelled.{group_of, count_after}
-use Rattle.ctw_module.specs.Read.{group_at}
+use Rattle.ctw_form.specs.Spelled.{group_of, count_after}
+use Rattle.ctw_form.specs.Read.{group_at}
 use Rattle.ctw_read.proofs.CodeLoops.{groups_done}
 use Rattle.ctw_read.proofs.code.groups.Goals as goal
 

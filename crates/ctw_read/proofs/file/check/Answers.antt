@@ -1,7 +1,7 @@
 use Rattle.std.proofs.Common.{ap, sym, subst, ◌∙◌}
 use Rattle.std.proofs.lemmas.Result.{err_from_is_err_and}
 use Rattle.ctw_ops.specs.Limits.{most_plain_bytes}
-use Rattle.ctw_module.specs.Read.{header_at, file_at}
+use Rattle.ctw_form.specs.Read.{header_at, file_at}
 use Rattle.ctw_read.specs.declared.fault.ReadFault.{ReadFault}
 use Rattle.ctw_read.specs.Calls.{FailsWith}
 use Rattle.ctw_read.proofs.WholeFiles.{input_is, file_header, file_big, file_fails, file_open, file_done}

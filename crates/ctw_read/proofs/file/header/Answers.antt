@@ -1,5 +1,5 @@
 use Rattle.std.proofs.Common.{◌≡◌, ◌+◌, ℕ, Bool, true, false, not, Err, refl, sym, ap, ◌∙◌}
-use Rattle.ctw_module.specs.Read.{fault}
+use Rattle.ctw_form.specs.Read.{fault}
 use Rattle.ctw_read.proofs.Headers.{header_version}
 use Rattle.ctw_read.proofs.file.header.Goals as goal
 

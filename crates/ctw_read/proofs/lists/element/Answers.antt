@@ -1,7 +1,7 @@
 use Rattle.std.proofs.Common.{refl, ◌∙◌}
-use Rattle.ctw_module.specs.Shown.{constant_of}
-use Rattle.ctw_module.specs.Spelled.{element_of}
-use Rattle.ctw_module.proofs.Heads.{element_headed}
+use Rattle.ctw_form.specs.Shown.{constant_of}
+use Rattle.ctw_form.specs.Spelled.{element_of}
+use Rattle.ctw_form.proofs.Heads.{element_headed}
 use Rattle.ctw_read.proofs.lists.element.Goals as goal
 
 pub returns : goal.returns

@@ -1,5 +1,5 @@
 use Rattle.ctw_leb.proofs.Loops.{left_step}
-use Rattle.ctw_module.specs.Read.{element_at}
+use Rattle.ctw_form.specs.Read.{element_at}
 use Rattle.ctw_read.proofs.lists.elements.Goals as goal
 
 pub elements-preserved : goal.elements-preserved

@@ -1,6 +1,6 @@
 use Rattle.std.proofs.Common.{◌-◌}
 use Rattle.ctw_leb.proofs.Loops.{Left}
-use Rattle.ctw_module.specs.Read.{element_at}
+use Rattle.ctw_form.specs.Read.{element_at}
 use Rattle.ctw_read.proofs.lists.elements.Given as goal
 
 abbrev pub invariant-elements : goal.invariant-elements

@@ -1,5 +1,5 @@
 use Rattle.ctw_leb.proofs.Loops.{left_step}
-use Rattle.ctw_module.specs.Read.{export_at}
+use Rattle.ctw_form.specs.Read.{export_at}
 use Rattle.ctw_read.proofs.lists.exports.Goals as goal
 
 pub exports-preserved : goal.exports-preserved

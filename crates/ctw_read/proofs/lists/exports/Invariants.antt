@@ -1,6 +1,6 @@
 use Rattle.std.proofs.Common.{◌-◌}
 use Rattle.ctw_leb.proofs.Loops.{Left}
-use Rattle.ctw_module.specs.Read.{export_at}
+use Rattle.ctw_form.specs.Read.{export_at}
 use Rattle.ctw_read.proofs.lists.exports.Given as goal
 
 abbrev pub invariant-exports : goal.invariant-exports

@@ -1,5 +1,5 @@
 use Rattle.ctw_leb.proofs.Loops.{left_step}
-use Rattle.ctw_module.specs.Read.{global_at}
+use Rattle.ctw_form.specs.Read.{global_at}
 use Rattle.ctw_read.proofs.lists.globals.Goals as goal
 
 pub globals-preserved : goal.globals-preserved

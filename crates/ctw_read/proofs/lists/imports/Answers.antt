@@ -2,9 +2,9 @@ use Rattle.std.proofs.Common.{◌-◌, ◌+◌, ap, sym, subst, ◌∙◌}
 use Rattle.ctw_ops.specs.declared.types.Label.{Label}
 use Rattle.ctw_ops.specs.Tree.{Import}
 use Rattle.ctw_leb.proofs.Loops.{LeftFrom, left_from_step}
-use Rattle.ctw_module.specs.declared.table.Held.{Held}
-use Rattle.ctw_module.specs.Sections.{none_held, held_with, held_after}
-use Rattle.ctw_module.specs.Read.{import_at}
+use Rattle.ctw_form.specs.declared.table.Held.{Held}
+use Rattle.ctw_form.specs.Sections.{none_held, held_with, held_after}
+use Rattle.ctw_form.specs.Read.{import_at}
 use Rattle.ctw_read.proofs.lists.imports.Goals as goal
 
 pub imports-preserved : goal.imports-preserved

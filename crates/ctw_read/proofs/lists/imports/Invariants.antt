@@ -1,7 +1,7 @@
 use Rattle.std.proofs.Common.{◌-◌}
 use Rattle.ctw_leb.proofs.Loops.{LeftFrom}
-use Rattle.ctw_module.specs.Sections.{none_held, held_after}
-use Rattle.ctw_module.specs.Read.{import_at}
+use Rattle.ctw_form.specs.Sections.{none_held, held_after}
+use Rattle.ctw_form.specs.Read.{import_at}
 use Rattle.ctw_read.proofs.lists.imports.Given as goal
 
 abbrev pub invariant-imports : goal.invariant-imports

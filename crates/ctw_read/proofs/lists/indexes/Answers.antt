@@ -1,6 +1,6 @@
 use Rattle.std.proofs.Common.{refl}
 use Rattle.ctw_leb.proofs.Loops.{left_step, left_none}
-use Rattle.ctw_module.specs.Read.{number_at}
+use Rattle.ctw_form.specs.Read.{number_at}
 use Rattle.ctw_read.proofs.lists.indexes.Goals as goal
 
 pub indexes-preserved : goal.indexes-preserved

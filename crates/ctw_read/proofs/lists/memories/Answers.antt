@@ -1,5 +1,5 @@
 use Rattle.ctw_ops.specs.declared.fault.What.TheVariants.{Memories}
-use Rattle.ctw_module.specs.Read.{memory_at}
+use Rattle.ctw_form.specs.Read.{memory_at}
 use Rattle.ctw_read.proofs.ItemLists.{only_one}
 use Rattle.ctw_read.proofs.lists.memories.Goals as goal
 

@@ -1,5 +1,5 @@
 use Rattle.ctw_leb.proofs.Loops.{left_step}
-use Rattle.ctw_module.specs.Read.{segment_at}
+use Rattle.ctw_form.specs.Read.{segment_at}
 use Rattle.ctw_read.proofs.lists.segments.Goals as goal
 
 pub segments-preserved : goal.segments-preserved

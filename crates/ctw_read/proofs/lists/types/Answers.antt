@@ -1,5 +1,5 @@
 use Rattle.ctw_leb.proofs.Loops.{left_step}
-use Rattle.ctw_module.specs.Read.{type_entry_at}
+use Rattle.ctw_form.specs.Read.{type_entry_at}
 use Rattle.ctw_read.proofs.lists.types.Goals as goal
 
 pub entries-preserved : goal.entries-preserved

@@ -1,6 +1,6 @@
 use Rattle.std.proofs.Common.{◌-◌}
 use Rattle.ctw_leb.proofs.Loops.{Left}
-use Rattle.ctw_module.specs.Read.{type_entry_at}
+use Rattle.ctw_form.specs.Read.{type_entry_at}
 use Rattle.ctw_read.proofs.lists.types.Given as goal
 
 abbrev pub invariant-entries : goal.invariant-entries

@@ -1,9 +1,9 @@
 use Rattle.std.proofs.Common.{ℕ, refl, ap, sym}
 use Rattle.ctw_ops.specs.declared.fault.What.TheVariants as what
-use Rattle.ctw_module.specs.declared.table.Held.{Held}
-use Rattle.ctw_module.specs.Sections.{TypeSection, ImportSection, FunctionSection, TableSection, MemorySection, GlobalSection, ExportSection, StartSection, ElementSection, CodeSection, DataSection, CustomSection}
-use Rattle.ctw_module.specs.Spelled.{room}
-use Rattle.ctw_module.specs.Read.{number_at, vector_at, vector_upto_at, type_entry_at, imports_at, table_at, memory_at, global_at, export_at, element_at, codes_at, segment_at, insides_at}
+use Rattle.ctw_form.specs.declared.table.Held.{Held}
+use Rattle.ctw_form.specs.Sections.{TypeSection, ImportSection, FunctionSection, TableSection, MemorySection, GlobalSection, ExportSection, StartSection, ElementSection, CodeSection, DataSection, CustomSection}
+use Rattle.ctw_form.specs.Spelled.{room}
+use Rattle.ctw_form.specs.Read.{number_at, vector_at, vector_upto_at, type_entry_at, imports_at, table_at, memory_at, global_at, export_at, element_at, codes_at, segment_at, insides_at}
 use Rattle.ctw_read.proofs.FileLoops.{only_read, custom_read}
 use Rattle.ctw_read.proofs.sections.items.Goals as goal
 

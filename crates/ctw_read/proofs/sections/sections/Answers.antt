@@ -1,6 +1,6 @@
 use Rattle.std.proofs.Common.{arith, sym, subst}
 use Rattle.std.proofs.lemmas.Result.{err_from_is_err_and}
-use Rattle.ctw_module.proofs.SectionForms.{section_shorter}
+use Rattle.ctw_form.proofs.SectionForms.{section_shorter}
 use Rattle.ctw_read.specs.declared.fault.ReadFault.{ReadFault}
 use Rattle.ctw_read.specs.Calls.{FailsWith}
 use Rattle.ctw_read.proofs.FileLoops.{all_sections, sections_begin, sections_go, sections_fail, sections_done}

@@ -1,4 +1,3 @@
-use Rattle.ctw_flat.specs.Instructions.{IsExactly}
 use Rattle.ctw_valid.proofs.lookup.row_of.Goals as goal
 
 pub returns-in-Load : goal.returns-in-Load

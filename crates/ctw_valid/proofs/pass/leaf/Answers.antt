@@ -1,5 +1,4 @@
 use Rattle.ctw_ops.specs.Code.{Plain, Load, Store}
-use Rattle.ctw_flat.specs.Instructions.{IsExactly}
 use Rattle.ctw_valid.specs.Scope.{scope}
 use Rattle.ctw_valid.specs.Tables.{labels_in}
 use Rattle.ctw_valid.proofs.pass.leaf.Goals as goal

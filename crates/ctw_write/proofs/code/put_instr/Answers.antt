@@ -2,7 +2,7 @@ use Rattle.std.proofs.Common.{subst}
 use Rattle.ctw_flat.specs.declared.instr.Instr.{Instr}
 use Rattle.ctw_flat.specs.Spelled.{IsOp}
 use Rattle.ctw_flat.specs.Instructions.{op_of}
-use Rattle.ctw_module.proofs.Fitted.{const_fits}
+use Rattle.ctw_form.proofs.Fitted.{const_fits}
 use Rattle.ctw_write.proofs.code.put_instr.Goals as goal
 
 pub put_const-requires : goal.put_const-requires

@@ -1,7 +1,7 @@
 use Rattle.std.proofs.Common.{◌≡◌, length, sym, ap, ◌∙◌, arith}
 use Rattle.ctw_ops.specs.Types.{FunctionType, byte_types}
 use Rattle.ctw_ops.specs.declared.types.Label.{Label}
-use Rattle.ctw_module.proofs.Params.{types_length}
+use Rattle.ctw_form.proofs.Params.{types_length}
 use Rattle.ctw_write.proofs.entry.params_of.Goals as goal
 
 pub overflow_cast-result : goal.overflow_cast-result

@@ -6,4 +6,4 @@ use Rattle.ctw_write.proofs.entry.put_codes.Goals as goal
 pub put_section-requires : goal.put_section-requires
 put_section-requires c =
     let m = tree c.args.m.now in
-    contents_short c.deref.result.now c.codes.new.out.items c.new-contents.result.items (vector_text code_text m.functions) c.deref.ensures.value c.in_ok-codes.ensures c.new-contents.ensures.items (vector_short 10 code_text m.functions (section_short m 10 c.requires.short))
+    contents_short c.deref.result.now c.codes.new.out.items c.new-contents.result.items (vector_text code_text m.functions) c.deref.ensures.value c.in_ok-codes.ensures c.new-contents.ensures.items (vector_short 10 code_text m.functions (section_short m 10 c.requires))

@@ -1,5 +1,5 @@
 use Rattle.ctw_module.specs.Trees.{tree}
-use Rattle.ctw_module.specs.Spelled.{export_of}
+use Rattle.ctw_form.specs.Spelled.{export_of}
 use Rattle.ctw_write.specs.Canon.{export_text}
 use Rattle.ctw_write.proofs.Listed.{listed_next}
 use Rattle.ctw_write.proofs.Shorter.{item_short}

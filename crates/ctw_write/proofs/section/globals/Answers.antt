@@ -2,7 +2,7 @@ use Rattle.std.proofs.Common.{option_map}
 use Rattle.ctw_ops.specs.Tree.{Global}
 use Rattle.ctw_ops.specs.declared.types.Label.{Label}
 use Rattle.ctw_module.specs.Trees.{tree}
-use Rattle.ctw_module.specs.Shown.{constant_of}
+use Rattle.ctw_form.specs.Shown.{constant_of}
 use Rattle.ctw_write.specs.Canon.{global_text}
 use Rattle.ctw_ops.specs.Valid.{IsFitting}
 use Rattle.ctw_write.proofs.Listed.{listed_next, one_of_all}
@@ -12,11 +12,11 @@ use Rattle.ctw_write.proofs.section.globals.Goals as goal
 pub put_defined-requires : goal.put_defined-requires
 put_defined-requires c =
     let m = tree c.args.m.now in
-    let g = global_at m c.args.imported c.loop-i.i c.global.result.ty (option_map constant_of c.global.result.init) c.requires.count c.global.ensures.typed c.global.ensures.init in
-    (g.global, g.typed, g.same, one_of_all (λ (x : Global Label). IsFitting x.init) m.globals c.loop-i.i g.global c.requires.fits g.there)
+    let g = global_at m c.imported_count-imported.result c.loop-i.i c.global.result.ty (option_map constant_of c.global.result.init) c.imported_count-imported.ensures c.global.ensures.typed c.global.ensures.init in
+    (g.global, g.typed, g.same, one_of_all (λ (x : Global Label). IsFitting x.init) m.globals c.loop-i.i g.global c.requires g.there)
 
 pub loop-i-preserved : goal.loop-i-preserved
 loop-i-preserved c =
     let m = tree c.args.m.now in
-    let g = global_at m c.args.imported c.loop-i.i c.global.result.ty (option_map constant_of c.global.result.init) c.requires.count c.global.ensures.typed c.global.ensures.init in
+    let g = global_at m c.imported_count-imported.result c.loop-i.i c.global.result.ty (option_map constant_of c.global.result.init) c.imported_count-imported.ensures c.global.ensures.typed c.global.ensures.init in
     listed_next global_text m.globals c.loop-i.i g.global c.put_u32.new.out.items c.loop-i.out.items c.put_defined.new.out.items g.there (c.in_ok-put_defined.ensures g.global g.typed g.same) c.loop-i.invariant

@@ -13,4 +13,4 @@ put_section-requires c =
     let whole : c.put_memory.new.out.items ≡ start ++ (u32_text 1 ++ memory_text c.in-Some.ty) =
     c.in_ok-put_memory-in-Some.ensures ∙ ap (λ (l : List ℕ). l ++ memory_text c.in-Some.ty) c.in_ok-put_u32-in-Some.ensures.put ∙ append_assoc start (u32_text 1) (memory_text c.in-Some.ty) in
     contents_short c.deref.result.now c.put_memory.new.out.items start (u32_text 1 ++ memory_text c.in-Some.ty) c.deref.ensures.value whole c.new-contents.ensures.items
-    (one_thing_short 5 memory_text m.memory c.in-Some.ty there (section_short m 5 c.requires.short))
+    (one_thing_short 5 memory_text m.memory c.in-Some.ty there (section_short m 5 c.requires))

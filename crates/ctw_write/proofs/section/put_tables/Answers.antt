@@ -13,4 +13,4 @@ put_section-requires c =
     let whole : c.put_table.new.out.items ≡ start ++ (u32_text 1 ++ table_text c.in-Some.limits) =
     c.in_ok-put_table-in-Some.ensures ∙ ap (λ (l : List ℕ). l ++ table_text c.in-Some.limits) c.in_ok-put_u32-in-Some.ensures.put ∙ append_assoc start (u32_text 1) (table_text c.in-Some.limits) in
     contents_short c.deref.result.now c.put_table.new.out.items start (u32_text 1 ++ table_text c.in-Some.limits) c.deref.ensures.value whole c.new-contents.ensures.items
-    (one_thing_short 4 table_text m.table c.in-Some.limits there (section_short m 4 c.requires.short))
+    (one_thing_short 4 table_text m.table c.in-Some.limits there (section_short m 4 c.requires))

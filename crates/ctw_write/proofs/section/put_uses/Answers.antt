@@ -9,4 +9,4 @@ use Rattle.ctw_write.proofs.section.put_uses.Goals as goal
 pub put_section-requires : goal.put_section-requires
 put_section-requires c =
     let m = tree c.args.m.now in
-    contents_short c.deref.result.now c.uses.new.out.items c.new-contents.result.items (vector_text (λ (f : Function Label). u32_text f.type) m.functions) c.deref.ensures.value c.in_ok-uses.ensures c.new-contents.ensures.items (vector_short 3 (λ (f : Function Label). u32_text f.type) m.functions (section_short m 3 c.requires.short))
+    contents_short c.deref.result.now c.uses.new.out.items c.new-contents.result.items (vector_text (λ (f : Function Label). u32_text f.type) m.functions) c.deref.ensures.value c.in_ok-uses.ensures c.new-contents.ensures.items (vector_short 3 (λ (f : Function Label). u32_text f.type) m.functions (section_short m 3 c.requires))

@@ -2,7 +2,7 @@ use Rattle.std.proofs.Common.{◌≡◌, ◌++◌, List, ℕ, length, ap, ◌∙
 use Rattle.ctw_ops.specs.ValueType.{ValueType}
 use Rattle.ctw_ops.specs.Types.{FunctionType, byte_types}
 use Rattle.ctw_ops.specs.declared.types.Label.{Label}
-use Rattle.ctw_module.proofs.Params.{types_length}
+use Rattle.ctw_form.proofs.Params.{types_length}
 use Rattle.ctw_write.specs.Canon.{vector_text, type_text}
 use Rattle.ctw_write.proofs.Listed.{params_sized}
 use Rattle.ctw_write.proofs.Walked.{on_ok}

@@ -1,5 +1,5 @@
 use Rattle.std.proofs.Common.{◌≡◌, ◌∙◌, ℕ, List, length, sym, ap, subst, arith}
-use Rattle.ctw_module.specs.Spelled.{Spells}
+use Rattle.ctw_form.specs.Spelled.{Spells}
 use Rattle.ctw_module.specs.Trees.{tree}
 use Rattle.ctw_write.specs.Canon.{canon}
 use Rattle.ctw_write.proofs.CanonicalText.{canonical_spelled, canonical_shortest}

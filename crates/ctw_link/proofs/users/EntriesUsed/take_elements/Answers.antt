@@ -1,11 +1,8 @@
-use Rattle.std.proofs.Common.{length, sym, ap, ◌∙◌, arith}
+use Rattle.std.proofs.Common.{sym, ◌∙◌, arith}
 use Rattle.ctw_module.specs.Trees.{view_module}
-use Rattle.ctw_link.proofs.EntryBounds.{functions_below, few_elements}
-use Rattle.ctw_link.proofs.Folding.{folded_more, folded_all, none_past}
+use Rattle.ctw_link.proofs.EntryBounds.{functions_below}
+use Rattle.ctw_link.proofs.Folding.{folded_more, folded_all}
 use Rattle.ctw_link.proofs.users.EntriesUsed.take_elements.Goals as goal
-
-pub returns-in_default-clause-entries : goal.returns-in_default-clause-entries
-returns-in_default-clause-entries c = folded_all _ _ _ _ _ c.elements.i (none_past _ _ (sym c.in_default.ensures)) c.elements.invariant.taken
 
 pub take_element-requires-clause-functions : goal.take_element-requires-clause-functions
 take_element-requires-clause-functions c = functions_below (view_module c.args.m.now) c.elements.i c.in-Some.element c.requires.valid (sym c.in-Some.ensures)
@@ -17,6 +14,4 @@ elements-preserved c = record {
 }
 
 pub returns-clause-entries : goal.returns-clause-entries
-returns-clause-entries c =
-    let b = c.bytes.ensures in
-    folded_all _ _ _ _ _ c.elements.i (omega (arith, few_elements c.args.m.now b.spelled, ap length b.bytes)) c.elements.invariant.taken
+returns-clause-entries c = folded_all _ _ _ _ _ c.elements.i (omega (arith, c.element_count-i-end.ensures, c.elements-test.false)) c.elements.invariant.taken

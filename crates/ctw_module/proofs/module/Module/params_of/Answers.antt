@@ -1,6 +1,6 @@
 use Rattle.std.proofs.Common.{length, ap, arith}
 use Rattle.ctw_module.proofs.Functions.{view_at}
-use Rattle.ctw_module.proofs.Params.{types_length}
+use Rattle.ctw_form.proofs.Params.{types_length}
 use Rattle.ctw_module.proofs.Readers.{type_few}
 use Rattle.ctw_module.proofs.module.Module.params_of.Goals as goal
 

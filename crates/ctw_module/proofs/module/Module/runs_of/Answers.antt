@@ -1,9 +1,9 @@
 use Rattle.std.proofs.Common.{◌≡◌, ◌-◌, ◌<◌, List, ℕ, length, take, drop, get_or, ap, ◌∙◌, arith}
-use Rattle.ctw_module.specs.declared.slots.LocalRun.{LocalRun}
-use Rattle.ctw_module.specs.Slots.{runs_of}
+use Rattle.ctw_form.specs.declared.slots.LocalRun.{LocalRun}
+use Rattle.ctw_form.specs.Slots.{runs_of}
 use Rattle.ctw_module.specs.Trees.{tree, parts}
 use Rattle.ctw_module.proofs.Functions.{view_at, named_low, named_high, defined}
-use Rattle.ctw_module.proofs.Parts.{runs_in}
+use Rattle.ctw_form.proofs.Parts.{runs_in}
 use Rattle.ctw_module.proofs.Readers.{runs_at, runs_are}
 use Rattle.ctw_module.proofs.module.Module.runs_of.Goals as goal
 

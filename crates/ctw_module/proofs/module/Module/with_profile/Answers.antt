@@ -6,6 +6,7 @@ unfolding tree parts
 invariant_of-result c =
     let h = c.self.invariant in
     record {
+      octets = h.octets;
       short = h.short;
       spelled = h.spelled;
       ct = h.ct;
@@ -13,12 +14,15 @@ invariant_of-result c =
       imports = h.imports;
       functions = h.functions;
       imported = h.imported;
+      imported_globals = h.imported_globals;
       codes = h.codes;
       runs = h.runs;
       globals = h.globals;
       inits = h.inits;
       memory = h.memory;
       table = h.table;
+      defined_memory = h.defined_memory;
+      defined_table = h.defined_table;
       exports = h.exports;
       names = h.names;
       start = h.start;

@@ -1,0 +1,22 @@
+pub mod LentTypes
+mod Examples
+pub mod TypeForms
+pub mod ItemForms
+pub mod PlainCodes
+pub mod CodeForms
+pub mod SectionForms
+pub mod Weights
+pub mod Brought
+pub mod FileForms
+pub mod SpelledParts
+pub mod PlainForms
+pub mod Runs
+pub mod Parts
+pub mod Params
+pub mod Heads
+pub mod SizedWindows
+pub mod OneOfEach
+pub mod Fitted
+pub mod Listing
+pub mod Gathering
+pub mod WithinLimits

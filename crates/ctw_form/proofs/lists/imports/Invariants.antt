@@ -1,0 +1,8 @@
+use Rattle.std.proofs.Common.{◌-◌}
+use Rattle.ctw_form.specs.Sections.{none_held, held_after}
+use Rattle.ctw_form.specs.Read.{import_at}
+use Rattle.ctw_form.proofs.Listing.{Listed}
+use Rattle.ctw_form.proofs.lists.imports.Given as goal
+
+abbrev pub invariant-imports : goal.invariant-imports
+invariant-imports l = Listed (import_at l.ct) held_after l.count none_held l.initial.cursor (l.count - l.counter) l.held l.cursor l.found.items

@@ -1,0 +1,9 @@
+pub mod Limits
+pub mod Tables
+pub mod Sections
+pub mod Spelled
+pub mod Read
+pub mod Shown
+pub mod Slots
+pub mod Pieces
+pub mod Gathered

@@ -1,5 +1,0 @@
-use Rattle.ctw_module.proofs.Fitted.{module_formed}
-use Rattle.ctw_module.proofs.laws.spelled_modules_are_formed.Goals as goal
-
-pub returns : goal.returns
-returns c bytes m s = module_formed bytes m s

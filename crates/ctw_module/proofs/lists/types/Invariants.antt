@@ -1,7 +1,0 @@
-use Rattle.std.proofs.Common.{◌-◌}
-use Rattle.ctw_module.specs.Read.{type_entry_at}
-use Rattle.ctw_module.proofs.Listing.{ListedItems}
-use Rattle.ctw_module.proofs.lists.types.Given as goal
-
-abbrev pub invariant-entries : goal.invariant-entries
-invariant-entries l = ListedItems (type_entry_at l.ct) l.count l.initial.cursor (l.count - l.counter) l.cursor (l.found.items)
