@@ -10,3 +10,4 @@ pub mod Packed
 pub mod Added
 pub mod Sorting
 pub mod Placing
+pub mod Bits

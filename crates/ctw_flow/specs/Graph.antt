@@ -11,7 +11,8 @@ abbrev pub with_link : ℕ → ℕ → List Edge → List Edge
 with_link to rule [] = record { to = to; rule = rule } ∷ []
 with_link to rule (e ∷ es) =
     cond (nat_lt to e.to) (record { to = to; rule = rule } ∷ e ∷ es)
-    (cond (nat_eq to e.to) (cond (nat_lt rule e.rule) (record { to = to; rule = rule } ∷ es) (e ∷ es)) (e ∷ with_link to rule es))
+    (cond (nat_eq to e.to) (cond (nat_lt rule e.rule) (record { to = to; rule = rule } ∷ es) (e ∷ es))
+    (e ∷ with_link to rule es))
 
 -- the graph with a link: the node that it leads from, the one that it leads to, and its rule
 abbrev pub with_added : List (List Edge) → ℕ × ℕ × ℕ → List (List Edge)

@@ -3,3 +3,4 @@ pub mod Rows
 pub mod Sorted
 pub mod Path
 pub mod Search
+pub mod Bits

@@ -45,9 +45,11 @@ pub record Steps : Type 0 where
   pub nodes : List ℕ
   pub rules : List ℕ
 
--- a path from a start to a goal with the rules of its links, such that none is shorter, and none of its length comes before it
+-- a path from a start to a goal with the rules of its links, such that none is shorter,
+-- and none of its length comes before it
 pub record IsLeastPath (g : List (List Edge)) (starts goals : List ℕ) (path : Steps) : Type 0 where
   pub leads : Leads g starts goals path.nodes
   pub ruled : AreRules g path.nodes path.rules
   pub shortest : (nodes : List ℕ) → Leads g starts goals nodes → length path.nodes ≤ length nodes
-  pub least : (nodes : List ℕ) → Leads g starts goals nodes → length nodes ≡ length path.nodes → (path.nodes ≡ nodes) ⊎ ComesBefore path.nodes nodes
+  pub least : (nodes : List ℕ) → Leads g starts goals nodes → length nodes ≡ length path.nodes
+      → (path.nodes ≡ nodes) ⊎ ComesBefore path.nodes nodes

@@ -13,7 +13,9 @@ abbrev pub found_from : ℕ → Edge → Entry
 found_from head e = record { node = e.to; parent = head; rule = e.rule }
 
 abbrev pub visit : ℕ → Edge → State → State
-visit head e s = cond (get_or s.seen e.to false) s (record { seen = slice_set s.seen e.to true; queue = s.queue ++ found_from head e ∷ [] })
+visit head e s =
+    cond (get_or s.seen e.to false) s
+    (record { seen = slice_set s.seen e.to true; queue = s.queue ++ found_from head e ∷ [] })
 
 abbrev pub visit_all : ℕ → List Edge → State → State
 visit_all head [] s = s
@@ -34,10 +36,13 @@ pub record IsSearch (g : List (List Edge)) (starts : List ℕ) (roots top head :
   pub root : (i : ℕ) (e : Entry) → At s.queue i e → i < roots → Contains starts e.node
   pub began : (n : ℕ) → Contains starts n → (i : ℕ) × (e : Entry) × At s.queue i e × (i < roots) × (e.node ≡ n)
   pub rising : (i j : ℕ) (e f : Entry) → At s.queue i e → At s.queue j f → i < j → j < roots → e.node < f.node
-  pub linked : (i : ℕ) (e : Entry) → At s.queue i e → roots ≤ i → (p : Entry) × At s.queue e.parent p × Contains (row g p.node) (record { to = e.node; rule = e.rule })
+  pub linked : (i : ℕ) (e : Entry) → At s.queue i e → roots ≤ i
+      → (p : Entry) × At s.queue e.parent p × Contains (row g p.node) (record { to = e.node; rule = e.rule })
   pub earlier : (i : ℕ) (e : Entry) → At s.queue i e → roots ≤ i → (e.parent < i) × (e.parent < top)
-  pub ordered : (i j : ℕ) (e f : Entry) → At s.queue i e → At s.queue j f → roots ≤ i → i < j → (e.parent < f.parent) ⊎ ((e.parent ≡ f.parent) × (e.node < f.node))
-  pub closed : (i : ℕ) (p : Entry) → At s.queue i p → i < head → (e : Edge) → Contains (row g p.node) e → (j : ℕ) × (f : Entry) × At s.queue j f × (f.node ≡ e.to) × ((j < roots) ⊎ (f.parent ≤ i))
+  pub ordered : (i j : ℕ) (e f : Entry) → At s.queue i e → At s.queue j f → roots ≤ i → i < j
+      → (e.parent < f.parent) ⊎ ((e.parent ≡ f.parent) × (e.node < f.node))
+  pub closed : (i : ℕ) (p : Entry) → At s.queue i p → i < head → (e : Edge) → Contains (row g p.node) e
+      → (j : ℕ) × (f : Entry) × At s.queue j f × (f.node ≡ e.to) × ((j < roots) ⊎ (f.parent ≤ i))
 
 -- the trail of the entry at a place: its node, and then that of the entry from which it was found
 abbrev pub IsPos : List Entry → ℕ → ℕ → List ℕ → Type 0
@@ -52,7 +57,8 @@ AreMarks starts nodes seen = (length seen ≡ nodes) × ((n : ℕ) → IsSeen se
 -- an entry for each marked node, from node n on
 abbrev pub root_entries : List Bool → ℕ → List Entry
 root_entries [] n = []
-root_entries (b ∷ bs) n = cond b (record { node = n; parent = 0; rule = 0 } ∷ root_entries bs (n + 1)) (root_entries bs (n + 1))
+root_entries (b ∷ bs) n =
+    cond b (record { node = n; parent = 0; rule = 0 } ∷ root_entries bs (n + 1)) (root_entries bs (n + 1))
 
 abbrev pub unseen : List Bool → ℕ
 unseen [] = 0

@@ -1,22 +1,28 @@
 // What the searches answer.
-ghost use Rattle.std.specs.Prelude.{◌≡◌, ◌↔◌, ℕ, ◌<◌, ◌≤◌, ◌-◌, ◌+◌, length, true, Some, slice_get, slice_index};
+ghost use Rattle.std.specs.Prelude.{◌≡◌, ◌↔◌, ℕ, ◌<◌, ◌≤◌, ◌-◌, ◌+◌, ◌*◌, length, true, Some, IfOk, slice_get, slice_index};
+ghost use Rattle.ctw_flow.specs.Bits.{bits_of};
 
+use std::alloc::{AllocError, Global};
 use std::marker::Model;
 
-/// A set of nodes.
+/// A set of nodes, with one bit a node.
 ///
 /// Contracts see it as a list that says of each node whether it is in the set.
 #[derive(Drop)]
 pub struct Marked {
-    pub(crate) bits: Vec<bool>,
+    words: Vec<u64>,
+    nodes: usize,
 }
 
 impl Model for Marked {
-    ghost use Rattle.std.specs.Prelude.{List, Bool};
+    ghost use Rattle.std.specs.Prelude.{List, Bool, ◌≤◌, ◌*◌, length};
+    ghost use Rattle.ctw_flow.specs.Bits.{bits_of};
 
     ghost Value = { List Bool };
 
-    ghost view = { λ m. m.bits.items };
+    ghost view = { λ m. bits_of m.words.items m.nodes };
+
+    ghost invariant = { λ m. m.nodes ≤ 64 * length m.words.items };
 }
 
 impl Marked {
@@ -25,8 +31,40 @@ impl Marked {
         requires { node < length self.now }
         ensures { (result ≡ true) ↔ (slice_get self.now node ≡ Some true) }
     {
-        self.bits[node as usize]
+        let n = node as usize;
+        (self.words[n / 64] >> (n % 64)) % 2 == 1
     }
+
+    // The set of the nodes that are marked in a list. The error is want of memory.
+    pub(crate) fn of(alloc: Global, marks: &[bool]) -> Result<Marked, AllocError>
+        ensures { IfOk result (λ m. m ≡ marks.now) }
+    {
+        let words = packed(alloc, marks)?;
+        Ok(Marked {
+            words,
+            nodes: marks.len(),
+        })
+    }
+}
+
+// A list of marks as words of 64 bits, the first mark in the lowest bit.
+fn packed(alloc: Global, marks: &[bool]) -> Result<Vec<u64>, AllocError>
+    ensures bits { IfOk result (λ words. bits_of words.items (length marks.now) ≡ marks.now) }
+    ensures room { IfOk result (λ words. length marks.now ≤ 64 * length words.items) }
+{
+    let mut words = Vec::with_capacity(alloc, marks.len() / 64 + 1)?;
+    let mut word = 0u64;
+    'marks: for (i, marked) in marks.iter().enumerate() {
+        if *marked {
+            word += 1u64 << (i % 64);
+        }
+        if i % 64 == 63 {
+            words.push(word)?;
+            word = 0;
+        }
+    }
+    words.push(word)?;
+    Ok(words)
 }
 
 /// A path, by its nodes in order, with the rules of its links.

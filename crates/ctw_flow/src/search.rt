@@ -38,7 +38,8 @@ impl Graph {
             queue: _,
             roots: _,
         } = self.explore(alloc, starts)?;
-        Ok(Marked { bits: seen })
+        let marked = Marked::of(alloc, seen.as_slice())?;
+        Ok(marked)
     }
 
     /// The shortest path from one of the starts to one of the goals, all below the count of nodes; of several of that
@@ -54,7 +55,9 @@ impl Graph {
     ) -> Result<Option<Path>, AllocError>
         requires starts { All (λ n. n < length self.now) starts.now }
         requires goals { All (λ n. n < length self.now) goals.now }
-        ensures { IfOk result (λ found. MatchOption found ((nodes : List ℕ) → Leads self.now starts.now goals.now nodes → ⊥) (λ path. IsLeastPath self.now starts.now goals.now path)) }
+        ensures { IfOk result (λ found.
+            MatchOption found ((nodes : List ℕ) → Leads self.now starts.now goals.now nodes → ⊥)
+            (λ path. IsLeastPath self.now starts.now goals.now path)) }
     {
         let nodes = self.count();
         let wanted = marks(alloc, nodes as usize, goals)?;
@@ -71,7 +74,9 @@ impl Graph {
     // The search from the starts, all links followed.
     fn explore(&self, alloc: Global, starts: &[u32]) -> Result<Search, AllocError>
         requires { All (λ n. n < length self.now) starts.now }
-        ensures search { IfOk result (λ s. IsSearch self.now starts.now s.roots (length s.queue.items) (length s.queue.items) (record { seen = s.seen.items; queue = s.queue.items })) }
+        ensures search { IfOk result (λ s.
+            IsSearch self.now starts.now s.roots (length s.queue.items) (length s.queue.items)
+            (record { seen = s.seen.items; queue = s.queue.items })) }
         ensures small { IfOk result (λ s. length s.queue.items < 2 ^ 32) }
     {
         let nodes = self.count();
@@ -126,7 +131,9 @@ fn expand(
     queue: &mut Vec<Entry>,
 ) -> Result<(), AllocError>
     requires { All (λ e. e.to < length seen.old.items) links.now }
-    ensures { IfOk result (λ _. record { seen = seen.new.items; queue = queue.new.items } ≡ visit_all head links.now (record { seen = seen.old.items; queue = queue.old.items })) }
+    ensures { IfOk result (λ _.
+        record { seen = seen.new.items; queue = queue.new.items }
+        ≡ visit_all head links.now (record { seen = seen.old.items; queue = queue.old.items })) }
 {
     for link in links {
         let to = link.to as usize;
@@ -145,7 +152,8 @@ fn expand(
 // The place of the first entry whose node is wanted.
 fn first_wanted(queue: &[Entry], wanted: &[bool]) -> Option<usize>
     requires { All (λ e. e.node < length wanted.now) queue.now }
-    ensures { MatchOption result (NoneBelow queue.now wanted.now (length queue.now)) (λ i. (e : Entry) × At queue.now i e × IsSeen wanted.now e.node × NoneBelow queue.now wanted.now i) }
+    ensures { MatchOption result (NoneBelow queue.now wanted.now (length queue.now))
+        (λ i. (e : Entry) × At queue.now i e × IsSeen wanted.now e.node × NoneBelow queue.now wanted.now i) }
 {
     for (i, entry) in queue.iter().enumerate() {
         if wanted[entry.node as usize] {

@@ -21,6 +21,8 @@ pub mod VariantLaws
 pub mod Right
 pub mod EraseLaws
 pub mod BodyOps
+pub mod GoesLaws
+pub mod ValidGoes
 pub mod SiteLaws
 pub mod NameLaws
 pub mod OrderLaws

@@ -51,7 +51,8 @@ or_less r (Some q) = Some (min r q)
 -- the least rule of the links from a site to another
 abbrev pub rule_between : ℕ → ℕ → List Link → Option ℕ
 rule_between a b [] = None
-rule_between a b (k ∷ ks) = if k.from == a && k.to == b then or_less k.rule (rule_between a b ks) else rule_between a b ks
+rule_between a b (k ∷ ks) =
+    if k.from == a && k.to == b then or_less k.rule (rule_between a b ks) else rule_between a b ks
 
 -- the least rule by which a site is public
 abbrev pub must_of : ℕ → List Must → Option ℕ

@@ -1,5 +1,5 @@
 -- The sites, links and public sites of a body over its opcodes, with a stack of open blocks.
-use Rattle.std.specs.Prelude.{ℕ, ◌+◌, true, false, List, [], ◌∷◌, ◌++◌, length, map, Option, Some, None, unwrap_or}
+use Rattle.std.specs.Prelude.{◌≡◌, ℕ, ◌+◌, true, false, List, [], ◌∷◌, ◌++◌, length, map, Option, Some, None, unwrap_or, IsSome}
 use Rattle.ctw_ops.specs.declared.types.Width.{Width}
 use Rattle.ctw_ops.specs.Types.{ValueType}
 use Rattle.ctw_ops.specs.Code.{Leaf, CallIndirect, OfBlock, OfLoop, OfIf, ByEnd, ByElse, Op, Plain, Opens, Closes}
@@ -33,10 +33,14 @@ handed v (w ∷ outer) = with_operands w (lifted (result_lift v.yields) (pushes 
 -- the open blocks behind an opcode, innermost first
 abbrev pub opens_behind : {A : Type 0} → BodyPlace A → Context Tag → ℕ → ℕ → Op A → List (Open Tag) → List (Open Tag)
 opens_behind P C n at op [] = []
-opens_behind P C n at (Plain i) (v ∷ outer) = with_operands v (after_lift (leaf_lift P (among C (v ∷ outer)) n at i v.operands) (stepped P (among C (v ∷ outer)) n i v.operands)) ∷ outer
+opens_behind P C n at (Plain i) (v ∷ outer) =
+    with_operands v
+    (after_lift (leaf_lift P (among C (v ∷ outer)) n at i v.operands) (stepped P (among C (v ∷ outer)) n i v.operands))
+    ∷ outer
 opens_behind P C n at (Opens OfBlock t) (v ∷ outer) = opened false (result_from n t) ∷ v ∷ outer
 opens_behind P C n at (Opens OfLoop t) (v ∷ outer) = opened true (result_from n t) ∷ v ∷ outer
-opens_behind P C n at (Opens OfIf t) (v ∷ outer) = opened false (result_from n t) ∷ with_operands v (unwrap_or (expect yes (i32 C) v.operands) fresh) ∷ outer
+opens_behind P C n at (Opens OfIf t) (v ∷ outer) =
+    opened false (result_from n t) ∷ with_operands v (unwrap_or (expect yes (i32 C) v.operands) fresh) ∷ outer
 opens_behind P C n at (Closes ByElse) (v ∷ outer) = opened v.loops v.yields ∷ outer
 opens_behind P C n at (Closes ByEnd) (v ∷ outer) = handed v outer
 
@@ -50,7 +54,9 @@ op_sites P C n at (Closes closer) (v ∷ outer) = []
 -- the sites of opcodes, from the site number `n` and the opcode number `at` on
 abbrev pub flat_sites : {A : Type 0} → BodyPlace A → Context Tag → List (Op A) → List (Open Tag) → ℕ → ℕ → List Site
 flat_sites P C [] blocks n at = []
-flat_sites P C (op ∷ ops) blocks n at = op_sites P C n at op blocks ++ flat_sites P C ops (opens_behind P C n at op blocks) (n + length (op_sites P C n at op blocks)) (at + 1)
+flat_sites P C (op ∷ ops) blocks n at =
+    op_sites P C n at op blocks
+    ++ flat_sites P C ops (opens_behind P C n at op blocks) (n + length (op_sites P C n at op blocks)) (at + 1)
 
 -- a leaf's row of the link table
 abbrev pub leaf_facts : {A : Type 0} → BodyPlace A → Context Tag → ℕ → Leaf A → Operands Tag → List (Fact Tag)
@@ -65,6 +71,25 @@ op_facts P C n (Opens OfLoop t) (v ∷ outer) = []
 op_facts P C n (Opens OfIf t) (v ∷ outer) = wants 13 (i32 C) v.operands
 op_facts P C n (Closes closer) (v ∷ outer) = facts_of_end v.yields v.operands
 
-abbrev pub flat_facts : {A : Type 0} → BodyPlace A → Context Tag → List (Op A) → List (Open Tag) → ℕ → ℕ → List (Fact Tag)
+abbrev pub flat_facts : {A : Type 0} → BodyPlace A → Context Tag → List (Op A) → List (Open Tag) → ℕ → ℕ
+    → List (Fact Tag)
 flat_facts P C [] blocks n at = []
-flat_facts P C (op ∷ ops) blocks n at = op_facts P C n op blocks ++ flat_facts P C ops (opens_behind P C n at op blocks) (n + length (op_sites P C n at op blocks)) (at + 1)
+flat_facts P C (op ∷ ops) blocks n at =
+    op_facts P C n op blocks
+    ++ flat_facts P C ops (opens_behind P C n at op blocks) (n + length (op_sites P C n at op blocks)) (at + 1)
+
+-- the pass without tests gets past an opcode
+abbrev pub GoesBy : {A : Type 0} → BodyPlace A → Context Tag → ℕ → Op A → List (Open Tag) → Type 0
+GoesBy P C n op [] = ⊥
+GoesBy P C n (Plain i) (v ∷ outer) = IsSome (stepped P (among C (v ∷ outer)) n i v.operands)
+GoesBy P C n (Opens OfBlock t) (v ∷ outer) = Unit {0}
+GoesBy P C n (Opens OfLoop t) (v ∷ outer) = Unit {0}
+GoesBy P C n (Opens OfIf t) (v ∷ outer) = IsSome (expect yes (i32 C) v.operands)
+GoesBy P C n (Closes closer) (v ∷ outer) = Unit {0}
+
+-- it gets past all opcodes, and nothing is left open
+abbrev pub Goes : {A : Type 0} → BodyPlace A → Context Tag → List (Op A) → List (Open Tag) → ℕ → ℕ → Type 0
+Goes P C [] blocks n at = blocks ≡ []
+Goes P C (op ∷ ops) blocks n at =
+    GoesBy P C n op blocks
+    × Goes P C ops (opens_behind P C n at op blocks) (n + length (op_sites P C n at op blocks)) (at + 1)

@@ -72,7 +72,8 @@ timed_facts r false l p = []
 abbrev pub facts_of : {S : Type 0} → Context S → Leaf S → Operands S → List (Fact S)
 facts_of C (Br k) o = after (slice_get C.labels k) (λ t. wants_all 8 (optional t) o)
 facts_of C (BrIf k) o = after (slice_get C.labels k) (λ t. wants_above 13 (i32 C) 8 (optional t) o)
-facts_of C (BrTable ks k) o = after (slice_get C.labels k) (λ t. label_facts 9 C t ks ++ wants_above 14 (i32 C) 8 (optional t) o)
+facts_of C (BrTable ks k) o =
+    after (slice_get C.labels k) (λ t. label_facts 9 C t ks ++ wants_above 14 (i32 C) 8 (optional t) o)
 facts_of C Return o = wants_all 10 (optional C.result) o
 facts_of C (Call f) o = after (slice_get C.functions f) (λ g. wants_all 7 g.params o)
 facts_of C (CallIndirect y) o = after (slice_get C.types y) (λ g. wants_above 14 (i32 C) 7 g.params o)
@@ -83,7 +84,8 @@ facts_of C (GlobalSet x) o = after (slice_get C.globals x) (λ g. wants 5 g.valu
 facts_of C (Load w l bytes signed align offset) o = wants 15 (i32 C) o
 facts_of C (Store w l bytes align offset) o = wants_above 6 (value_type w l) 15 (i32 C ∷ []) o
 facts_of C MemoryGrow o = wants 17 (i32 C) o
-facts_of C (Numeric op l) o = after (num_sig_of op) (λ sig. timed_facts 16 (leaks op C.profile) l C.public ++ wants_all 2 (operands sig l) o)
+facts_of C (Numeric op l) o =
+    after (num_sig_of op) (λ sig. timed_facts 16 (leaks op C.profile) l C.public ++ wants_all 2 (operands sig l) o)
 facts_of C _ o = []
 
 -- the end of a block with a result
@@ -100,19 +102,31 @@ ending C (Uses y g l rest) o = ending C rest (after_lift l (step yes (with_user 
 ending C (Blocks t l body rest) o = ending C rest (lifted l (pushes (optional t) o))
 ending C (Loops t l body rest) o = ending C rest (lifted l (pushes (optional t) o))
 ending C (Ifs t l arm rest) o = ending C rest (lifted l (pushes (optional t) (unwrap_or (expect yes (i32 C) o) fresh)))
-ending C (IfElses t l arm other rest) o = ending C rest (lifted l (pushes (optional t) (unwrap_or (expect yes (i32 C) o) fresh)))
+ending C (IfElses t l arm other rest) o =
+    ending C rest (lifted l (pushes (optional t) (unwrap_or (expect yes (i32 C) o) fresh)))
 
 abbrev pub facts : {S : Type 0} → Context S → Sited S → Operands S → List (Fact S)
 facts C Done o = []
 facts C (Does i l rest) o = facts_of C i o ++ facts C rest (after_lift l (step yes C i o))
-facts C (Uses y g l rest) o = facts_of (with_user g C) (CallIndirect 0) o ++ facts C rest (after_lift l (step yes (with_user g C) (CallIndirect 0) o))
-facts C (Blocks t l body rest) o = facts (inside t C) body fresh ++ (facts_of_end t (ending (inside t C) body fresh) ++ facts C rest (lifted l (pushes (optional t) o)))
-facts C (Loops t l body rest) o = facts (inside None C) body fresh ++ (facts_of_end t (ending (inside None C) body fresh) ++ facts C rest (lifted l (pushes (optional t) o)))
+facts C (Uses y g l rest) o =
+    facts_of (with_user g C) (CallIndirect 0) o
+    ++ facts C rest (after_lift l (step yes (with_user g C) (CallIndirect 0) o))
+facts C (Blocks t l body rest) o =
+    facts (inside t C) body fresh
+    ++ (facts_of_end t (ending (inside t C) body fresh) ++ facts C rest (lifted l (pushes (optional t) o)))
+facts C (Loops t l body rest) o =
+    facts (inside None C) body fresh
+    ++ (facts_of_end t (ending (inside None C) body fresh) ++ facts C rest (lifted l (pushes (optional t) o)))
 facts C (Ifs t l arm rest) o =
-    wants 13 (i32 C) o ++ (facts (inside t C) arm fresh ++ (facts_of_end t (ending (inside t C) arm fresh) ++ facts C rest (lifted l (pushes (optional t) (unwrap_or (expect yes (i32 C) o) fresh)))))
+    wants 13 (i32 C) o
+    ++ (facts (inside t C) arm fresh
+    ++ (facts_of_end t (ending (inside t C) arm fresh)
+    ++ facts C rest (lifted l (pushes (optional t) (unwrap_or (expect yes (i32 C) o) fresh)))))
 facts C (IfElses t l arm other rest) o =
     wants 13 (i32 C) o ++ (facts (inside t C) arm fresh ++ (facts_of_end t (ending (inside t C) arm fresh)
-    ++ (facts (inside t C) other fresh ++ (facts_of_end t (ending (inside t C) other fresh) ++ facts C rest (lifted l (pushes (optional t) (unwrap_or (expect yes (i32 C) o) fresh)))))))
+    ++ (facts (inside t C) other fresh
+    ++ (facts_of_end t (ending (inside t C) other fresh)
+    ++ facts C rest (lifted l (pushes (optional t) (unwrap_or (expect yes (i32 C) o) fresh)))))))
 
 -- the lifts of a sequence
 abbrev pub lift_list : {S : Type 0} → Option (Lift S) → List (Lift S)
@@ -173,4 +187,5 @@ at_tag L (At n) = L n
 at_tag L Fixed = Public
 
 abbrev pub Obeys : (ℕ → Label) → List Link → List Must → Type 0
-Obeys L links musts = AllByRecursion (λ k. L k.from ≡ Secret → L k.to ≡ Secret) links × AllByRecursion (λ k. L k.site ≡ Public) musts
+Obeys L links musts =
+    AllByRecursion (λ k. L k.from ≡ Secret → L k.to ≡ Secret) links × AllByRecursion (λ k. L k.site ≡ Public) musts

@@ -88,7 +88,9 @@ offset_facts all (c ∷ cs) = offset_fact all c ++ offset_facts all cs
 -- ---- the module
 
 abbrev pub body_facts : Module Label → Points → SitedBody → List (Fact Tag)
-body_facts m p b = facts (site_context m (trust_at p b.func) b.type b.locals) b.code fresh ++ facts_of_end b.type.result (ending (site_context m (trust_at p b.func) b.type b.locals) b.code fresh)
+body_facts m p b =
+    facts (site_context m (trust_at p b.func) b.type b.locals) b.code fresh
+    ++ facts_of_end b.type.result (ending (site_context m (trust_at p b.func) b.type b.locals) b.code fresh)
 
 abbrev pub facts_within : Module Label → Points → List SitedBody → List (Fact Tag)
 facts_within m p [] = []
@@ -102,7 +104,10 @@ abbrev pub offsets : Module Label → List (Constant Label)
 offsets m = map (λ e. e.offset) m.elements ++ map (λ s. s.offset) m.segments
 
 abbrev pub module_facts : Module Label → Points → List (Fact Tag)
-module_facts m p = facts_within m p (bodies m p) ++ (user_facts (users m p) (users m p) ++ (init_facts (sited_globals m) (first_defined_global m) m.globals ++ offset_facts (sited_globals m) (offsets m)))
+module_facts m p =
+    facts_within m p (bodies m p)
+    ++ (user_facts (users m p) (users m p)
+    ++ (init_facts (sited_globals m) (first_defined_global m) m.globals ++ offset_facts (sited_globals m) (offsets m)))
 
 -- the links with their rules, and the sites that have to be public
 abbrev pub links : Module Label → Points → List Link

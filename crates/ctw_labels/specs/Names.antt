@@ -2,18 +2,8 @@
 use Rattle.std.specs.Prelude.{ℕ, Option, Some, None}
 pub use Rattle.ctw_labels.specs.declared.tag.Tag.{Tag}
 pub use Rattle.ctw_labels.specs.declared.tag.Tag.TheVariants.{At, Fixed}
-
-pub data SiteName : Type 0 where
-  Param : (func index : ℕ) → SiteName
-  Result : (func : ℕ) → SiteName
-  GlobalOf : (global : ℕ) → SiteName
-  MemoryOf : SiteName
-  Local : (func index : ℕ) → SiteName
-  BlockOf : (func at : ℕ) → SiteName
-  OpOf : (func at : ℕ) → SiteName
-  PushOf : (func at : ℕ) → SiteName
-  IParam : (func at index : ℕ) → SiteName
-  IResult : (func at : ℕ) → SiteName
+pub use Rattle.ctw_labels.specs.declared.name.SiteName.{SiteName}
+pub use Rattle.ctw_labels.specs.declared.name.SiteName.TheVariants.{Param, Result, GlobalOf, Memory as MemoryOf, Local, Block as BlockOf, Op as OpOf, Push as PushOf, IParam, IResult}
 
 -- a site: its name, and for a push the site that its value comes from, where that is one
 pub record Site : Type 0 where

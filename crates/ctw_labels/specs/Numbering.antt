@@ -21,7 +21,8 @@ abbrev pub result_from : {A : Type 0} → ℕ → Option (ValueType A) → Optio
 result_from n t = option_map (λ u. value_type u.width (At n)) t
 
 abbrev pub type_from : {A : Type 0} → ℕ → FunctionType A → FunctionType Tag
-type_from n g = record { trust = Untrusted; params = params_from n g.params; result = result_from (n + length g.params) g.result }
+type_from n g =
+    record { trust = Untrusted; params = params_from n g.params; result = result_from (n + length g.params) g.result }
 
 -- sites for the items of a list, named from `i` on
 abbrev pub sites_for : {A : Type 0} → (ℕ → SiteName) → ℕ → List A → List Site
@@ -49,7 +50,8 @@ opcode_count (Loop t body rest) = opcode_count body + 2 + opcode_count rest
 opcode_count (If t arm rest) = opcode_count arm + 2 + opcode_count rest
 opcode_count (IfElse t arm other rest) = opcode_count arm + opcode_count other + 3 + opcode_count rest
 
--- a body's part in the numbering: its function's number, the module's types, and the opcodes whose values may lose their secrecy
+-- a body's part in the numbering: its function's number, the module's types,
+-- and the opcodes whose values may lose their secrecy
 pub record BodyPlace (A : Type 0) : Type 0 where
   pub func : ℕ
   pub types : List (FunctionType A)
@@ -166,20 +168,36 @@ number P C (Block t body rest) n at o =
     let own = block_sites P.func at n t in
     let b = number P (inside (result_from n t) C) body (n + length own) (at + 1) fresh in
     let r = number P C rest (n + length own + length b.sites) (at + opcode_count body + 2) (behind_block (P.free at) n t o) in
-    record { code = Blocks (result_from n t) (block_lift (P.free at) n t) b.code r.code; sites = own ++ b.sites ++ r.sites; last = r.last }
+    record {
+      code = Blocks (result_from n t) (block_lift (P.free at) n t) b.code r.code;
+      sites = own ++ b.sites ++ r.sites;
+      last = r.last;
+    }
 number P C (Loop t body rest) n at o =
     let own = block_sites P.func at n t in
     let b = number P (inside None C) body (n + length own) (at + 1) fresh in
     let r = number P C rest (n + length own + length b.sites) (at + opcode_count body + 2) (behind_block (P.free at) n t o) in
-    record { code = Loops (result_from n t) (block_lift (P.free at) n t) b.code r.code; sites = own ++ b.sites ++ r.sites; last = r.last }
+    record {
+      code = Loops (result_from n t) (block_lift (P.free at) n t) b.code r.code;
+      sites = own ++ b.sites ++ r.sites;
+      last = r.last;
+    }
 number P C (If t arm rest) n at o =
     let own = block_sites P.func at n t in
     let b = number P (inside (result_from n t) C) arm (n + length own) (at + 1) fresh in
     let r = number P C rest (n + length own + length b.sites) (at + opcode_count arm + 2) (behind_block (P.free at) n t (unwrap_or (expect yes (i32 C) o) fresh)) in
-    record { code = Ifs (result_from n t) (block_lift (P.free at) n t) b.code r.code; sites = own ++ b.sites ++ r.sites; last = r.last }
+    record {
+      code = Ifs (result_from n t) (block_lift (P.free at) n t) b.code r.code;
+      sites = own ++ b.sites ++ r.sites;
+      last = r.last;
+    }
 number P C (IfElse t arm other rest) n at o =
     let own = block_sites P.func at n t in
     let b = number P (inside (result_from n t) C) arm (n + length own) (at + 1) fresh in
     let c = number P (inside (result_from n t) C) other (n + length own + length b.sites) (at + opcode_count arm + 2) fresh in
     let r = number P C rest (n + length own + length b.sites + length c.sites) (at + opcode_count arm + opcode_count other + 3) (behind_block (P.free at) n t (unwrap_or (expect yes (i32 C) o) fresh)) in
-    record { code = IfElses (result_from n t) (block_lift (P.free at) n t) b.code c.code r.code; sites = own ++ b.sites ++ c.sites ++ r.sites; last = r.last }
+    record {
+      code = IfElses (result_from n t) (block_lift (P.free at) n t) b.code c.code r.code;
+      sites = own ++ b.sites ++ c.sites ++ r.sites;
+      last = r.last;
+    }

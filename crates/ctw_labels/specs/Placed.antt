@@ -48,7 +48,9 @@ with_trust t g = record { trust = t; params = g.params; result = g.result }
 -- functions from number `k` on, whose sites begin at `n`
 abbrev pub function_uses : Module Label → Points → ℕ → ℕ → List ℕ → List (TypeUse Tag)
 function_uses m p k n [] = []
-function_uses m p k n (y ∷ ys) = use_of y (with_trust (trust_at p k) (type_from n (type_named m y))) ∷ function_uses m p (k + 1) (n + site_count (type_named m y)) ys
+function_uses m p k n (y ∷ ys) =
+    use_of y (with_trust (trust_at p k) (type_from n (type_named m y)))
+    ∷ function_uses m p (k + 1) (n + site_count (type_named m y)) ys
 
 -- functions by index first, then indirect calls in order
 abbrev pub type_uses : Module Label → Points → List (TypeUse Tag)
@@ -129,7 +131,8 @@ module _ (L : Tag → Label) where
   module _ (name : ℕ → FunctionType Label → ℕ) (m : Module Label) (p : Points) where
     -- what is imported: the next function has the number k and its first site is q, and n is the next global's site
     abbrev pub placed_extern : ℕ → ℕ → ℕ → Extern Label → Extern Label
-    placed_extern k q n (ImportedFunction y) = ImportedFunction (name y (function_type_to L (with_trust (trust_at p k) (type_from q (type_named m y)))))
+    placed_extern k q n (ImportedFunction y) =
+        ImportedFunction (name y (function_type_to L (with_trust (trust_at p k) (type_from q (type_named m y)))))
     placed_extern k q n (ImportedTable limits) = ImportedTable limits
     placed_extern k q n (ImportedMemory t) = ImportedMemory (placed_memory m t)
     placed_extern k q n (ImportedGlobal g) = ImportedGlobal (placed_variable n g)
@@ -149,10 +152,16 @@ module _ (L : Tag → Label) where
     abbrev pub placed_imports : ℕ → ℕ → ℕ → List (Import Label) → List (Import Label)
     placed_imports k q n [] = []
     placed_imports k q n (i ∷ is) =
-        record { module_name = i.module_name; name = i.name; kind = placed_extern k q n i.kind } ∷ placed_imports (next_number i.kind k) (next_function i.kind q) (next_global i.kind n) is
+        record { module_name = i.module_name; name = i.name; kind = placed_extern k q n i.kind }
+        ∷ placed_imports (next_number i.kind k) (next_function i.kind q) (next_global i.kind n) is
 
     abbrev pub placed_function : SitedBody → Function Label
-    placed_function b = record { type = name b.entry (function_type_to L (with_trust (trust_at p b.func) b.type)); locals = map (type_to L) b.locals; body = placed_code L name b.code }
+    placed_function b =
+        record {
+          type = name b.entry (function_type_to L (with_trust (trust_at p b.func) b.type));
+          locals = map (type_to L) b.locals;
+          body = placed_code L name b.code;
+        }
 
     -- over a list of type entries, and an index in it for each labelled type of a plain one
     abbrev pub placed_module : List (TypeEntry Label) → Module Label
@@ -185,7 +194,9 @@ module _ (L : Tag → Label) where
 
   -- two table users that erase alike have equal labels
   abbrev pub AreAlike : List (FunctionType Tag) → Type 0
-  AreAlike us = AllByRecursion (λ g. AllByRecursion (λ h. erase_alike g h ≡ true → function_type_to L g ≡ function_type_to L h) us) us
+  AreAlike us =
+      AllByRecursion
+      (λ g. AllByRecursion (λ h. erase_alike g h ≡ true → function_type_to L g ≡ function_type_to L h) us) us
 
   abbrev pub AreUsersAlike : Module Label → Points → Type 0
   AreUsersAlike m p = AreAlike (users m p)

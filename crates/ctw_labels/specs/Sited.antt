@@ -16,7 +16,8 @@ use Rattle.ctw_ops.specs.TagMaps.{function_type_to, context_to, leaf_to}
 abbrev pub yes : {S : Type 0} → S → S → Bool
 yes a b = true
 
--- A value that is put under another tag: from where it comes to where it is pushed. It may lose its secrecy where `free`.
+-- A value that is put under another tag: from where it comes to where it is pushed.
+-- It may lose its secrecy where `free`.
 pub record Lift (S : Type 0) : Type 0 where
   pub width : Width
   pub source : S
@@ -69,11 +70,17 @@ module _ {S : Type 0} (L : S → Label) where
   abbrev pub placed_code : (ℕ → FunctionType Label → ℕ) → Sited S → Code Label
   placed_code name Done = Stop
   placed_code name (Does i l rest) = Then (leaf_to L i) (raised l (placed_code name rest))
-  placed_code name (Uses y g l rest) = Then (CallIndirect (name y (function_type_to L g))) (raised l (placed_code name rest))
-  placed_code name (Blocks t l body rest) = Block (option_map (type_to L) t) (placed_code name body) (raised l (placed_code name rest))
-  placed_code name (Loops t l body rest) = Loop (option_map (type_to L) t) (placed_code name body) (raised l (placed_code name rest))
-  placed_code name (Ifs t l arm rest) = If (option_map (type_to L) t) (placed_code name arm) (raised l (placed_code name rest))
-  placed_code name (IfElses t l arm other rest) = IfElse (option_map (type_to L) t) (placed_code name arm) (placed_code name other) (raised l (placed_code name rest))
+  placed_code name (Uses y g l rest) =
+      Then (CallIndirect (name y (function_type_to L g))) (raised l (placed_code name rest))
+  placed_code name (Blocks t l body rest) =
+      Block (option_map (type_to L) t) (placed_code name body) (raised l (placed_code name rest))
+  placed_code name (Loops t l body rest) =
+      Loop (option_map (type_to L) t) (placed_code name body) (raised l (placed_code name rest))
+  placed_code name (Ifs t l arm rest) =
+      If (option_map (type_to L) t) (placed_code name arm) (raised l (placed_code name rest))
+  placed_code name (IfElses t l arm other rest) =
+      IfElse (option_map (type_to L) t) (placed_code name arm) (placed_code name other)
+      (raised l (placed_code name rest))
 
   -- no push is public while its yield is secret
   abbrev pub IsOrderlyAt : Option (Lift S) → Type 0
@@ -87,4 +94,5 @@ module _ {S : Type 0} (L : S → Label) where
   IsOrderlyCode (Blocks t l body rest) = IsOrderlyAt l × IsOrderlyCode body × IsOrderlyCode rest
   IsOrderlyCode (Loops t l body rest) = IsOrderlyAt l × IsOrderlyCode body × IsOrderlyCode rest
   IsOrderlyCode (Ifs t l arm rest) = IsOrderlyAt l × IsOrderlyCode arm × IsOrderlyCode rest
-  IsOrderlyCode (IfElses t l arm other rest) = IsOrderlyAt l × IsOrderlyCode arm × IsOrderlyCode other × IsOrderlyCode rest
+  IsOrderlyCode (IfElses t l arm other rest) =
+      IsOrderlyAt l × IsOrderlyCode arm × IsOrderlyCode other × IsOrderlyCode rest

@@ -28,7 +28,8 @@ function_sites m k (y ∷ ys) = type_sites (Param k) (Result k) (type_named m y)
 
 abbrev pub globals_from : ℕ → List (VariableType Label) → List (VariableType Tag)
 globals_from n [] = []
-globals_from n (g ∷ gs) = record { mutable = g.mutable; value = value_type g.value.width (At n) } ∷ globals_from (n + 1) gs
+globals_from n (g ∷ gs) =
+    record { mutable = g.mutable; value = value_type g.value.width (At n) } ∷ globals_from (n + 1) gs
 
 -- the number of the first global's site, and of the memory's
 abbrev pub first_global : Module Label → ℕ
@@ -51,11 +52,14 @@ memory_tag m = option_map (λ t. At (memory_site m)) (memory_among m.imports m.m
 
 -- the sites that stand before those of bodies
 abbrev pub head_sites : Module Label → List Site
-head_sites m = function_sites m 0 (function_entries m) ++ (sites_for GlobalOf 0 (global_types m) ++ site_if MemoryOf (memory_among m.imports m.memory))
+head_sites m =
+    function_sites m 0 (function_entries m)
+    ++ (sites_for GlobalOf 0 (global_types m) ++ site_if MemoryOf (memory_among m.imports m.memory))
 
 -- ---- bodies
 
--- a defined function under sites: its number, its type entry, its type and its declared locals, its code, and the sites from its locals on
+-- a defined function under sites: its number, its type entry, its type and its declared locals, its code,
+-- and the sites from its locals on
 pub record SitedBody : Type 0 where
   pub func : ℕ
   pub entry : ℕ
@@ -64,7 +68,8 @@ pub record SitedBody : Type 0 where
   pub code : Sited Tag
   pub sites : List Site
 
--- what a body of a function of this trust may name; an indirect call brings its own type, and functions have no trust here
+-- what a body of a function of this trust may name; an indirect call brings its own type,
+-- and functions have no trust here
 abbrev pub site_context : Module Label → Trust → FunctionType Tag → List (ValueType Tag) → Context Tag
 site_context m trust g locals = record {
   types = [];
@@ -85,7 +90,9 @@ abbrev pub place_of : Module Label → Points → ℕ → BodyPlace Label
 place_of m p k = record { func = k; types = function_types m; free = is_released p k }
 
 abbrev pub numbered_body : Module Label → Points → FunctionType Tag → ℕ → ℕ → Function Label → Numbered
-numbered_body m p g k n f = number (place_of m p k) (site_context m (trust_at p k) g (params_from n f.locals)) f.body (n + length f.locals) 0 fresh
+numbered_body m p g k n f =
+    number (place_of m p k) (site_context m (trust_at p k) g (params_from n f.locals)) f.body
+    (n + length f.locals) 0 fresh
 
 -- function k, whose parameters' sites begin at q, and its locals' at n
 abbrev pub body_from : Module Label → Points → ℕ → ℕ → ℕ → Function Label → SitedBody
@@ -95,19 +102,24 @@ body_from m p q k n f = record {
   type = type_from q (type_named m f.type);
   locals = params_from n f.locals;
   code = (numbered_body m p (type_from q (type_named m f.type)) k n f).code;
-  sites = sites_for (Local k) (length (type_named m f.type).params) f.locals ++ (numbered_body m p (type_from q (type_named m f.type)) k n f).sites;
+  sites =
+      sites_for (Local k) (length (type_named m f.type).params) f.locals
+      ++ (numbered_body m p (type_from q (type_named m f.type)) k n f).sites;
 }
 
 abbrev pub bodies_from : Module Label → Points → ℕ → ℕ → ℕ → List (Function Label) → List SitedBody
 bodies_from m p q k n [] = []
-bodies_from m p q k n (f ∷ fs) = body_from m p q k n f ∷ bodies_from m p (q + site_count (type_named m f.type)) (k + 1) (n + length (body_from m p q k n f).sites) fs
+bodies_from m p q k n (f ∷ fs) =
+    body_from m p q k n f
+    ∷ bodies_from m p (q + site_count (type_named m f.type)) (k + 1) (n + length (body_from m p q k n f).sites) fs
 
 -- the first site of the defined functions' parameters
 abbrev pub first_defined : Module Label → ℕ
 first_defined m = length (function_sites m 0 (imported_functions m.imports))
 
 abbrev pub bodies : Module Label → Points → List SitedBody
-bodies m p = bodies_from m p (first_defined m) (length (imported_functions m.imports)) (length (head_sites m)) m.functions
+bodies m p =
+    bodies_from m p (first_defined m) (length (imported_functions m.imports)) (length (head_sites m)) m.functions
 
 abbrev pub body_sites : List SitedBody → List Site
 body_sites [] = []

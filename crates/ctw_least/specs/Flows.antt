@@ -29,8 +29,10 @@ IsFlow links musts marks (x ∷ t) = IsMarked marks x Secret × FlowsOn links mu
 -- the graph has just the links, each with its least rule
 pub record IsGraphOf (links : List Link) (g : List (List Edge)) : Type 0 where
   pub linked : (a b : ℕ) → HasLink g a b ↔ Linked links a b
-  pub ruled : (a b r : ℕ) → Contains (row g a) (record { to = b; rule = r }) → Contains links (record { from = a; to = b; rule = r })
-  pub least : (a b r q : ℕ) → Contains (row g a) (record { to = b; rule = r }) → Contains links (record { from = a; to = b; rule = q }) → r ≤ q
+  pub ruled : (a b r : ℕ) → Contains (row g a) (record { to = b; rule = r })
+      → Contains links (record { from = a; to = b; rule = r })
+  pub least : (a b r q : ℕ) → Contains (row g a) (record { to = b; rule = r })
+      → Contains links (record { from = a; to = b; rule = q }) → r ≤ q
 
 abbrev pub label_of : Bool → Label
 label_of true = Secret

@@ -1,4 +1,5 @@
--- The module that a text denotes (W3C WebAssembly Core 1.0, section 6.6.12), and the first fault of a text that denotes none.
+-- The module that a text denotes (W3C WebAssembly Core 1.0, section 6.6.12),
+-- and the first fault of a text that denotes none.
 use Rattle.std.specs.Prelude.{◌≡◌, ℕ, ◌+◌, Bool, List, Option, Some, None, Result, Ok, Err, length, slice_get}
 use Rattle.ctw_ops.specs.declared.types.Label.{Label}
 use Rattle.ctw_ops.specs.Tree.{Module}
@@ -57,7 +58,8 @@ abbrev pub after_names : Result Wide NameFault → Result (Module Label) Fault
 after_names (Ok m) = in_limits (limited m)
 after_names (Err f) = Err (name_fault f)
 
-abbrev pub after_grammar : (size : ℕ) → (ct : Bool) → List Lexeme → Result (List Piece) Stop → Result (Module Label) Fault
+abbrev pub after_grammar : (size : ℕ) → (ct : Bool) → List Lexeme → Result (List Piece) Stop
+    → Result (Module Label) Fault
 after_grammar size ct ts (Ok ps) = after_names (named ct (fields_of ps))
 after_grammar size ct ts (Err f) = Err (stop_fault size ts f)
 

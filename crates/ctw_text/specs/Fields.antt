@@ -1,4 +1,5 @@
--- The fields of a module (W3C WebAssembly Core 1.0, section 6.6), gathered from its pieces. Names stand as they are written.
+-- The fields of a module (W3C WebAssembly Core 1.0, section 6.6), gathered from its pieces.
+-- Names stand as they are written.
 use Rattle.std.specs.Prelude.{ℕ, Bool, true, false, List, [], ◌∷◌, Option, Some, None, unwrap_or}
 use Rattle.ctw_ops.specs.declared.types.Label.{Label}
 use Rattle.ctw_ops.specs.declared.types.Trust.{Trust}
@@ -150,7 +151,8 @@ called Local w d = record d { locals = first_named w d.locals }
 
 -- an access with its offset and align
 abbrev pub at_place : Leaf Label → (offset : ℕ) → Option ℕ → Leaf Label
-at_place (ops.Load w l bytes signed natural none) offset align = ops.Load w l bytes signed (unwrap_or align natural) offset
+at_place (ops.Load w l bytes signed natural none) offset align =
+    ops.Load w l bytes signed (unwrap_or align natural) offset
 at_place (ops.Store w l bytes natural none) offset align = ops.Store w l bytes (unwrap_or align natural) offset
 at_place leaf offset align = leaf
 
@@ -173,7 +175,8 @@ add (Aligned n) d = record d { align = Some n }
 add (Labelled w) d = record d { label = Some w }
 add (Yields t) d = record d { yields = Some t }
 add (Repeats w) d = record d { label = Some w }
-add (Single leaf) d = record d { code = Op (RSingle (at_place leaf d.offset d.align)) ∷ d.code; offset = 0; align = None }
+add (Single leaf) d =
+    record d { code = Op (RSingle (at_place leaf d.offset d.align)) ∷ d.code; offset = 0; align = None }
 add Branches d = record d { code = Op (RTargets d.targets) ∷ d.code; targets = [] }
 add Indirect d = record d { code = Op (RIndirect d.sig) ∷ d.code; sig = no_use }
 add (Opens shape) d = record d { code = Op (ROpens shape d.label d.yields) ∷ d.code; label = None; yields = None }

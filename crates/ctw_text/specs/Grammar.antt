@@ -1,5 +1,5 @@
--- The grammar of the text form (W3C WebAssembly Core 1.0, sections 6.4 to 6.6, without floats, with own words): its nonterminals, its
--- productions, and which tokens stand for which pieces.
+-- The grammar of the text form (W3C WebAssembly Core 1.0, sections 6.4 to 6.6, without floats, with own words): its
+-- nonterminals, its productions, and which tokens stand for which pieces.
 use Rattle.std.specs.Prelude.{◌≡◌, ℕ, zero, suc, ◌^◌, ◌-◌, ◌%◌, ◌||◌, nat_lt, nat_le, nat_eq, Bool, true, false, cond, List, [], ◌∷◌, ◌++◌, Option, Some, None}
 use Rattle.std.specs.Str.{is_utf8}
 use Rattle.std.specs.List.{list_all}
@@ -53,7 +53,8 @@ takes_bytes what bytes = list_all (λ b. nat_lt b 128) bytes || is_utf8 bytes
 
 -- Nonterminals
 
--- what the fields before say: whether one of them defines a function, table, memory or global, and whether one is a start
+-- what the fields before say: whether one of them defines a function, table, memory or global,
+-- and whether one is a start
 pub record Before : Type 0 where
   pub defined : Bool
   pub started : Bool
@@ -244,31 +245,44 @@ module _ (ct : Bool) where
     -- the module
     module_name : {w : Name} → Rule1 (Head false) (Id w) (gives [] (Head true ∷ []))
     ct_fields : {named : Bool} → ct ≡ true → Rule1 (Head named) (Word KCt) (gives [] (Fields nothing_before ∷ []))
-    plain_fields : {named : Bool} {t : Tok} {m : Move} → ct ≡ false → Rule1 (Fields nothing_before) t m → Rule1 (Head named) t m
+    plain_fields : {named : Bool} {t : Tok} {m : Move} → ct ≡ false → Rule1 (Fields nothing_before) t m
+        → Rule1 (Head named) t m
     no_more_fields : {b : Before} → Rule1 (Fields b) Close (gives [] [])
     closing : Rule1 Closing Close (gives [] [])
     -- types
     type_name : {w : Name} → Rule1 (TypeHead false) (Id w) (gives (NameIs w ∷ []) (TypeHead true ∷ []))
     -- a typeuse: trusted
     trusted : {locals : Bool} {stage : Stage} {p : Place} → allowed ct KTrusted ≡ true → within stage AtTrusted ≡ true →
-        Rule1 (After (InUse locals stage) p) (Word KTrusted) (gives (Trusting ∷ []) (After (InUse locals AtParams) p ∷ []))
+        Rule1 (After (InUse locals stage) p) (Word KTrusted)
+        (gives (Trusting ∷ []) (After (InUse locals AtParams) p ∷ []))
     -- params, results and locals, behind the `(` and the word
-    slot : {part : Part} {w : Name} → has_names part ≡ true → Rule1 (Group part) (Id w) (gives (Slot part w ∷ []) (OneType part ∷ Closing ∷ []))
-    first_type : {part : Part} {t : ValueType Label} → allowed ct (KTy t) ≡ true → Rule1 (Group part) (Word (KTy t)) (gives (Typed part t ∷ []) (Types part ∷ []))
+    slot : {part : Part} {w : Name} → has_names part ≡ true
+        → Rule1 (Group part) (Id w) (gives (Slot part w ∷ []) (OneType part ∷ Closing ∷ []))
+    first_type : {part : Part} {t : ValueType Label} → allowed ct (KTy t) ≡ true
+        → Rule1 (Group part) (Word (KTy t)) (gives (Typed part t ∷ []) (Types part ∷ []))
     no_types : {part : Part} → Rule1 (Group part) Close (gives [] [])
-    next_type : {part : Part} {t : ValueType Label} → allowed ct (KTy t) ≡ true → Rule1 (Types part) (Word (KTy t)) (gives (Typed part t ∷ []) (Types part ∷ []))
+    next_type : {part : Part} {t : ValueType Label} → allowed ct (KTy t) ≡ true
+        → Rule1 (Types part) (Word (KTy t)) (gives (Typed part t ∷ []) (Types part ∷ []))
     no_more_types : {part : Part} → Rule1 (Types part) Close (gives [] [])
-    one_type : {part : Part} {t : ValueType Label} → allowed ct (KTy t) ≡ true → Rule1 (OneType part) (Word (KTy t)) (gives (Typed part t ∷ []) [])
-    yields : {t : ValueType Label} → allowed ct (KTy t) ≡ true → Rule1 YieldType (Word (KTy t)) (gives (Yields t ∷ []) [])
-    value : {t : ValueType Label} → allowed ct (KTy t) ≡ true → Rule1 ValueType1 (Word (KTy t)) (gives (ValueIs t ∷ []) [])
+    one_type : {part : Part} {t : ValueType Label} → allowed ct (KTy t) ≡ true
+        → Rule1 (OneType part) (Word (KTy t)) (gives (Typed part t ∷ []) [])
+    yields : {t : ValueType Label} → allowed ct (KTy t) ≡ true
+        → Rule1 YieldType (Word (KTy t)) (gives (Yields t ∷ []) [])
+    value : {t : ValueType Label} → allowed ct (KTy t) ≡ true
+        → Rule1 ValueType1 (Word (KTy t)) (gives (ValueIs t ∷ []) [])
     -- an index, a number of a const, a string
-    numbered : {role : Role} {n : ℕ} → is_u32 n ≡ true → Rule1 (AnIndex role) (Num n) (gives (Refers role (Numbered n) ∷ []) [])
+    numbered : {role : Role} {n : ℕ} → is_u32 n ≡ true
+        → Rule1 (AnIndex role) (Num n) (gives (Refers role (Numbered n) ∷ []) [])
     named : {role : Role} {w : Name} → Rule1 (AnIndex role) (Id w) (gives (Refers role (Named w) ∷ []) [])
-    unsigned : {w : Width} {l : Label} {n : ℕ} → fits w false n ≡ true → Rule1 (AConst w l) (Num n) (gives (Single (ops.Const w l (bits_of w false n)) ∷ []) [])
-    signed : {w : Width} {l : Label} {neg : Bool} {n : ℕ} → fits w neg n ≡ true → Rule1 (AConst w l) (Signed neg n) (gives (Single (ops.Const w l (bits_of w neg n)) ∷ []) [])
-    string : {what : Quoted} {bytes : List ℕ} → takes_bytes what bytes ≡ true → Rule1 (AString what) (Text bytes) (gives (Quotes what bytes ∷ []) [])
+    unsigned : {w : Width} {l : Label} {n : ℕ} → fits w false n ≡ true
+        → Rule1 (AConst w l) (Num n) (gives (Single (ops.Const w l (bits_of w false n)) ∷ []) [])
+    signed : {w : Width} {l : Label} {neg : Bool} {n : ℕ} → fits w neg n ≡ true
+        → Rule1 (AConst w l) (Signed neg n) (gives (Single (ops.Const w l (bits_of w neg n)) ∷ []) [])
+    string : {what : Quoted} {bytes : List ℕ} → takes_bytes what bytes ≡ true
+        → Rule1 (AString what) (Text bytes) (gives (Quotes what bytes ∷ []) [])
     -- func, table, memory and global fields
-    extern_name : {tag : ExternTag} {b : Before} {w : Name} → Rule1 (ExternHead tag b false) (Id w) (gives (NameIs w ∷ []) (ExternHead tag b true ∷ []))
+    extern_name : {tag : ExternTag} {b : Before} {w : Name}
+        → Rule1 (ExternHead tag b false) (Id w) (gives (NameIs w ∷ []) (ExternHead tag b true ∷ []))
     extern_body : {tag : ExternTag} {b : Before} {named : Bool} {t : Tok} {m : Move} → Rule1 (body_of tag) t m →
         Rule1 (ExternHead tag b named) t (before_sort m (Fields (defining b)))
     table_min : {n : ℕ} → is_u32 n ≡ true → Rule1 TableBody (Num n) (gives (Number n ∷ []) (TableMax ∷ Closing ∷ []))
@@ -277,13 +291,17 @@ module _ (ct : Bool) where
     table_max : {n : ℕ} → is_u32 n ≡ true → Rule1 TableMax (Num n) (gives (Number n ∷ []) (Funcref ∷ []))
     table_no_max : Rule1 TableMax (Word KFuncref) (gives [] [])
     funcref : Rule1 Funcref (Word KFuncref) (gives [] [])
-    memory_secret : {inline : Bool} → allowed ct KSecret ≡ true → Rule1 (MemoryBody inline) (Word KSecret) (gives (IsSecret ∷ []) (Pages inline ∷ []))
+    memory_secret : {inline : Bool} → allowed ct KSecret ≡ true
+        → Rule1 (MemoryBody inline) (Word KSecret) (gives (IsSecret ∷ []) (Pages inline ∷ []))
     memory_public : {inline : Bool} {t : Tok} {m : Move} → Rule1 (Pages inline) t m → Rule1 (MemoryBody inline) t m
-    memory_min : {inline : Bool} {n : ℕ} → is_u32 n ≡ true → Rule1 (Pages inline) (Num n) (gives (Number n ∷ []) (MemoryMax ∷ []))
+    memory_min : {inline : Bool} {n : ℕ} → is_u32 n ≡ true
+        → Rule1 (Pages inline) (Num n) (gives (Number n ∷ []) (MemoryMax ∷ []))
     memory_max : {n : ℕ} → is_u32 n ≡ true → Rule1 MemoryMax (Num n) (gives (Number n ∷ []) (Closing ∷ []))
     memory_no_max : Rule1 MemoryMax Close (gives [] [])
-    global_constant : {t : ValueType Label} → allowed ct (KTy t) ≡ true → Rule1 GlobalBody (Word (KTy t)) (gives (ValueIs t ∷ []) (Expr ∷ Closing ∷ []))
-    global_type : {t : ValueType Label} → allowed ct (KTy t) ≡ true → Rule1 GlobalType1 (Word (KTy t)) (gives (ValueIs t ∷ []) (Closing ∷ []))
+    global_constant : {t : ValueType Label} → allowed ct (KTy t) ≡ true
+        → Rule1 GlobalBody (Word (KTy t)) (gives (ValueIs t ∷ []) (Expr ∷ Closing ∷ []))
+    global_type : {t : ValueType Label} → allowed ct (KTy t) ≡ true
+        → Rule1 GlobalType1 (Word (KTy t)) (gives (ValueIs t ∷ []) (Closing ∷ []))
     -- imports
     import_name : {tag : ExternTag} {w : Name} → Rule1 (NamedType tag) (Id w) (gives (NameIs w ∷ []) (type_of tag ∷ []))
     import_type : {tag : ExternTag} {t : Tok} {m : Move} → Rule1 (type_of tag) t m → Rule1 (NamedType tag) t m
@@ -293,23 +311,31 @@ module _ (ct : Bool) where
     no_more_items : Rule1 Items Close (gives [] [])
     bytes : {bs : List ℕ} → Rule1 Strings (Text bs) (gives (Quotes Bytes bs ∷ []) (Strings ∷ []))
     no_more_bytes : Rule1 Strings Close (gives [] [])
-    segment_index : {role : Role} {rest : Sort} {t : Tok} {m : Move} → Rule1 (AnIndex role) t m → Rule1 (SegmentHead role rest) t (gives m.out (Offset ∷ rest ∷ []))
-    expr_const : {w : Width} {l : Label} → allowed ct (KOp (Const w l)) ≡ true → Rule1 Expr (Word (KOp (Const w l))) (gives [] (AConst w l ∷ []))
+    segment_index : {role : Role} {rest : Sort} {t : Tok} {m : Move} → Rule1 (AnIndex role) t m
+        → Rule1 (SegmentHead role rest) t (gives m.out (Offset ∷ rest ∷ []))
+    expr_const : {w : Width} {l : Label} → allowed ct (KOp (Const w l)) ≡ true
+        → Rule1 Expr (Word (KOp (Const w l))) (gives [] (AConst w l ∷ []))
     expr_global : Rule1 Expr (Word (KOp (Uses GlobalGet))) (gives [] (AGlobal ∷ []))
     custom_place : {n : ℕ} → nat_le n 11 ≡ true → Rule1 CustomPlace (Num n) (gives (Number n ∷ []) [])
     -- instructions: what belongs to the one before
     repeats : {p : Place} {w : Name} → Rule1 (After MayRepeat p) (Id w) (gives (Repeats w ∷ []) (After NoTail p ∷ []))
     label : {p : Place} {w : Name} → Rule1 (After MayLabel p) (Id w) (gives (Labelled w ∷ []) (After MayYield p ∷ []))
-    offset : {p : Place} {n : ℕ} → is_u32 n ≡ true → Rule1 (After MayOffset p) (OffsetIs n) (gives (AtOffset n ∷ []) (After MayAlign p ∷ []))
-    align : {p : Place} {n k : ℕ} → exponent n ≡ Some k → Rule1 (After MayAlign p) (AlignIs n) (gives (Aligned k ∷ []) (After NoTail p ∷ []))
-    only_align : {p : Place} {n k : ℕ} → exponent n ≡ Some k → Rule1 (After MayOffset p) (AlignIs n) (gives (Aligned k ∷ []) (After NoTail p ∷ []))
-    target : {p : Place} {n : ℕ} → is_u32 n ≡ true → Rule1 (After MayTarget p) (Num n) (gives (Refers OfTarget (Numbered n) ∷ []) (After MayTarget p ∷ []))
-    named_target : {p : Place} {w : Name} → Rule1 (After MayTarget p) (Id w) (gives (Refers OfTarget (Named w) ∷ []) (After MayTarget p ∷ []))
+    offset : {p : Place} {n : ℕ} → is_u32 n ≡ true
+        → Rule1 (After MayOffset p) (OffsetIs n) (gives (AtOffset n ∷ []) (After MayAlign p ∷ []))
+    align : {p : Place} {n k : ℕ} → exponent n ≡ Some k
+        → Rule1 (After MayAlign p) (AlignIs n) (gives (Aligned k ∷ []) (After NoTail p ∷ []))
+    only_align : {p : Place} {n k : ℕ} → exponent n ≡ Some k
+        → Rule1 (After MayOffset p) (AlignIs n) (gives (Aligned k ∷ []) (After NoTail p ∷ []))
+    target : {p : Place} {n : ℕ} → is_u32 n ≡ true
+        → Rule1 (After MayTarget p) (Num n) (gives (Refers OfTarget (Numbered n) ∷ []) (After MayTarget p ∷ []))
+    named_target : {p : Place} {w : Name}
+        → Rule1 (After MayTarget p) (Id w) (gives (Refers OfTarget (Named w) ∷ []) (After MayTarget p ∷ []))
     -- plain instructions
     plain : {tail : Tail} {p : Place} {f : Form} → takes_plain p ≡ true → allowed ct (KOp f) ≡ true →
         Rule1 (After tail p) (Word (KOp f)) (gives (pieces_of f) (operands_of f (After (tail_of f) p ∷ [])))
     block : {tail : Tail} {p : Place} {shape : Shape} → takes_plain p ≡ true →
-        Rule1 (After tail p) (Word (KShape shape)) (gives (Opens shape ∷ []) (After MayLabel (place_of shape) ∷ After MayRepeat p ∷ []))
+        Rule1 (After tail p) (Word (KShape shape))
+        (gives (Opens shape ∷ []) (After MayLabel (place_of shape) ∷ After MayRepeat p ∷ []))
     else : {tail : Tail} → Rule1 (After tail InIf) (Word KElse) (gives (Else ∷ []) (After MayRepeat InBlock ∷ []))
     end_block : {tail : Tail} → Rule1 (After tail InBlock) (Word KEnd) (gives (End ∷ []) [])
     end_if : {tail : Tail} → Rule1 (After tail InIf) (Word KEnd) (gives (End ∷ []) [])
@@ -326,72 +352,110 @@ module _ (ct : Bool) where
   pub data Rule2 : Sort → (place : ℕ) → Key → Move → Type 0 where
     -- (module id? ct? field*)
     module_ : {at : ℕ} → Rule2 Module at KModule (gives [] (Head false ∷ []))
-    plain_fields : {named : Bool} {at : ℕ} {k : Key} {m : Move} → ct ≡ false → Rule2 (Fields nothing_before) at k m → Rule2 (Head named) at k m
+    plain_fields : {named : Bool} {at : ℕ} {k : Key} {m : Move} → ct ≡ false → Rule2 (Fields nothing_before) at k m
+        → Rule2 (Head named) at k m
     -- (type id? ..)
-    type : {b : Before} {at : ℕ} → Rule2 (Fields b) at KType (gives (Begin TypeField ∷ []) (TypeHead false ∷ Closing ∷ Fields b ∷ []))
+    type : {b : Before} {at : ℕ}
+        → Rule2 (Fields b) at KType (gives (Begin TypeField ∷ []) (TypeHead false ∷ Closing ∷ Fields b ∷ []))
     -- (import str str desc), before all that defines
-    import : {b : Before} {at : ℕ} → b.defined ≡ false → Rule2 (Fields b) at KImport (gives (Begin ImportField ∷ []) (AString ModuleName ∷ AString ImportName ∷ ImportKind ∷ Closing ∷ Fields b ∷ []))
+    import : {b : Before} {at : ℕ} → b.defined ≡ false
+        → Rule2 (Fields b) at KImport
+        (gives (Begin ImportField ∷ [])
+        (AString ModuleName ∷ AString ImportName ∷ ImportKind ∷ Closing ∷ Fields b ∷ []))
     -- (func ..), (table ..), (memory ..), (global ..)
-    extern : {b : Before} {tag : ExternTag} {at : ℕ} → Rule2 (Fields b) at (KExtern tag) (gives (Begin (Defining tag) ∷ []) (ExternHead tag b false ∷ []))
+    extern : {b : Before} {tag : ExternTag} {at : ℕ}
+        → Rule2 (Fields b) at (KExtern tag) (gives (Begin (Defining tag) ∷ []) (ExternHead tag b false ∷ []))
     -- (export str (kind idx))
-    export : {b : Before} {at : ℕ} → Rule2 (Fields b) at KExport (gives (Begin ExportField ∷ []) (AString ExportName ∷ ExportKind ∷ Closing ∷ Fields b ∷ []))
+    export : {b : Before} {at : ℕ}
+        → Rule2 (Fields b) at KExport
+        (gives (Begin ExportField ∷ []) (AString ExportName ∷ ExportKind ∷ Closing ∷ Fields b ∷ []))
     -- (start idx), once
-    start : {b : Before} {at : ℕ} → b.started ≡ false → Rule2 (Fields b) at KStart (gives (Begin StartField ∷ []) (AnIndex OfStart ∷ Closing ∷ Fields (starting b) ∷ []))
+    start : {b : Before} {at : ℕ} → b.started ≡ false
+        → Rule2 (Fields b) at KStart
+        (gives (Begin StartField ∷ []) (AnIndex OfStart ∷ Closing ∷ Fields (starting b) ∷ []))
     -- (elem idx? offset idx*) and (data idx? offset str*)
-    elem : {b : Before} {at : ℕ} → Rule2 (Fields b) at KElem (gives (Begin ElemField ∷ []) (SegmentHead OfTable Items ∷ Fields b ∷ []))
-    data_ : {b : Before} {at : ℕ} → Rule2 (Fields b) at KData (gives (Begin DataField ∷ []) (SegmentHead OfMemory Strings ∷ Fields b ∷ []))
+    elem : {b : Before} {at : ℕ}
+        → Rule2 (Fields b) at KElem (gives (Begin ElemField ∷ []) (SegmentHead OfTable Items ∷ Fields b ∷ []))
+    data_ : {b : Before} {at : ℕ}
+        → Rule2 (Fields b) at KData (gives (Begin DataField ∷ []) (SegmentHead OfMemory Strings ∷ Fields b ∷ []))
     -- (custom N str str)
-    custom : {b : Before} {at : ℕ} → Rule2 (Fields b) at KCustom (gives (Begin CustomField ∷ []) (CustomPlace ∷ AString CustomName ∷ AString Bytes ∷ Closing ∷ Fields b ∷ []))
+    custom : {b : Before} {at : ℕ}
+        → Rule2 (Fields b) at KCustom
+        (gives (Begin CustomField ∷ []) (CustomPlace ∷ AString CustomName ∷ AString Bytes ∷ Closing ∷ Fields b ∷ []))
     -- types: (func trusted? param* result*), (variant idx (func ..))
-    func_type : {named : Bool} {at : ℕ} → Rule2 (TypeHead named) at (KExtern Func) (gives [] (After (InUse false AtTrusted) Nothing ∷ []))
-    variant : {named : Bool} {at : ℕ} → allowed ct KVariant ≡ true → Rule2 (TypeHead named) at KVariant (gives [] (AnIndex OfBase ∷ FuncType ∷ Closing ∷ []))
+    func_type : {named : Bool} {at : ℕ}
+        → Rule2 (TypeHead named) at (KExtern Func) (gives [] (After (InUse false AtTrusted) Nothing ∷ []))
+    variant : {named : Bool} {at : ℕ} → allowed ct KVariant ≡ true
+        → Rule2 (TypeHead named) at KVariant (gives [] (AnIndex OfBase ∷ FuncType ∷ Closing ∷ []))
     variant_type : {at : ℕ} → Rule2 FuncType at (KExtern Func) (gives [] (After (InUse false AtTrusted) Nothing ∷ []))
     -- typeuses: (type idx), param*, result*; and local*
     entry : {locals : Bool} {stage : Stage} {p : Place} {at : ℕ} → within stage AtType ≡ true →
-        Rule2 (After (InUse locals stage) p) at KType (gives (Entry at ∷ []) (AnIndex OfEntry ∷ Closing ∷ After (InUse locals AtParams) p ∷ []))
+        Rule2 (After (InUse locals stage) p) at KType
+        (gives (Entry at ∷ []) (AnIndex OfEntry ∷ Closing ∷ After (InUse locals AtParams) p ∷ []))
     param : {locals : Bool} {stage : Stage} {p : Place} {at : ℕ} → within stage AtParams ≡ true →
-        Rule2 (After (InUse locals stage) p) at (KGroup Param) (gives [] (Group Param ∷ After (InUse locals AtParams) p ∷ []))
+        Rule2 (After (InUse locals stage) p) at (KGroup Param)
+        (gives [] (Group Param ∷ After (InUse locals AtParams) p ∷ []))
     result : {locals : Bool} {stage : Stage} {p : Place} {at : ℕ} → within stage AtResults ≡ true →
-        Rule2 (After (InUse locals stage) p) at (KGroup Result) (gives [] (Group Result ∷ After (InUse locals AtResults) p ∷ []))
+        Rule2 (After (InUse locals stage) p) at (KGroup Result)
+        (gives [] (Group Result ∷ After (InUse locals AtResults) p ∷ []))
     local : {locals : Bool} {stage : Stage} {p : Place} {at : ℕ} → locals ≡ true →
-        Rule2 (After (InUse locals stage) p) at (KGroup Local) (gives [] (Group Local ∷ After (InUse locals AtLocals) p ∷ []))
+        Rule2 (After (InUse locals stage) p) at (KGroup Local)
+        (gives [] (Group Local ∷ After (InUse locals AtLocals) p ∷ []))
     -- (export str) and (import str str) of a field
     inline_export : {tag : ExternTag} {b : Before} {named : Bool} {at : ℕ} →
-        Rule2 (ExternHead tag b named) at KExport (gives [] (AString InlineExport ∷ Closing ∷ ExternHead tag b true ∷ []))
+        Rule2 (ExternHead tag b named) at KExport
+        (gives [] (AString InlineExport ∷ Closing ∷ ExternHead tag b true ∷ []))
     inline_import : {tag : ExternTag} {b : Before} {named : Bool} {at : ℕ} → b.defined ≡ false →
-        Rule2 (ExternHead tag b named) at KImport (gives [] (AString ModuleName ∷ AString ImportName ∷ Closing ∷ type_of tag ∷ Fields b ∷ []))
-    extern_body : {tag : ExternTag} {b : Before} {named : Bool} {at : ℕ} {k : Key} {m : Move} → Rule2 (body_of tag) at k m →
+        Rule2 (ExternHead tag b named) at KImport
+        (gives [] (AString ModuleName ∷ AString ImportName ∷ Closing ∷ type_of tag ∷ Fields b ∷ []))
+    extern_body : {tag : ExternTag} {b : Before} {named : Bool} {at : ℕ} {k : Key} {m : Move}
+        → Rule2 (body_of tag) at k m →
         Rule2 (ExternHead tag b named) at k (before_sort m (Fields (defining b)))
     -- (elem idx*) and (data str*) inline
     inline_elem : {at : ℕ} → Rule2 InlineElem at KElem (gives [] (Items ∷ []))
-    memory_public : {inline : Bool} {at : ℕ} {k : Key} {m : Move} → Rule2 (Pages inline) at k m → Rule2 (MemoryBody inline) at k m
+    memory_public : {inline : Bool} {at : ℕ} {k : Key} {m : Move} → Rule2 (Pages inline) at k m
+        → Rule2 (MemoryBody inline) at k m
     inline_data : {at : ℕ} → Rule2 (Pages true) at KData (gives (Inline ∷ []) (Strings ∷ Closing ∷ []))
     -- (mut type)
-    global_mutable : {at : ℕ} → Rule2 GlobalBody at KMut (gives (IsMutable ∷ []) (ValueType1 ∷ Closing ∷ Expr ∷ Closing ∷ []))
+    global_mutable : {at : ℕ}
+        → Rule2 GlobalBody at KMut (gives (IsMutable ∷ []) (ValueType1 ∷ Closing ∷ Expr ∷ Closing ∷ []))
     type_mutable : {at : ℕ} → Rule2 GlobalType1 at KMut (gives (IsMutable ∷ []) (ValueType1 ∷ Closing ∷ Closing ∷ []))
     -- desc
-    import_kind : {tag : ExternTag} {at : ℕ} → Rule2 ImportKind at (KExtern tag) (gives (KindIs tag ∷ []) (NamedType tag ∷ []))
-    import_type : {tag : ExternTag} {at : ℕ} {k : Key} {m : Move} → Rule2 (type_of tag) at k m → Rule2 (NamedType tag) at k m
-    export_kind : {tag : ExternTag} {at : ℕ} → Rule2 ExportKind at (KExtern tag) (gives [] (AnIndex (OfExport tag) ∷ Closing ∷ []))
+    import_kind : {tag : ExternTag} {at : ℕ}
+        → Rule2 ImportKind at (KExtern tag) (gives (KindIs tag ∷ []) (NamedType tag ∷ []))
+    import_type : {tag : ExternTag} {at : ℕ} {k : Key} {m : Move} → Rule2 (type_of tag) at k m
+        → Rule2 (NamedType tag) at k m
+    export_kind : {tag : ExternTag} {at : ℕ}
+        → Rule2 ExportKind at (KExtern tag) (gives [] (AnIndex (OfExport tag) ∷ Closing ∷ []))
     -- (const number), (global.get idx) and (offset expr)
-    expr_const : {w : Width} {l : Label} {at : ℕ} → allowed ct (KOp (Const w l)) ≡ true → Rule2 Expr at (KOp (Const w l)) (gives [] (AConst w l ∷ Closing ∷ []))
+    expr_const : {w : Width} {l : Label} {at : ℕ} → allowed ct (KOp (Const w l)) ≡ true
+        → Rule2 Expr at (KOp (Const w l)) (gives [] (AConst w l ∷ Closing ∷ []))
     expr_global : {at : ℕ} → Rule2 Expr at (KOp (Uses GlobalGet)) (gives [] (AGlobal ∷ Closing ∷ []))
     offset : {at : ℕ} → Rule2 Offset at KOffset (gives [] (Expr ∷ Closing ∷ []))
     folded_offset : {at : ℕ} {f : Form} {m : Move} → Rule2 Expr at (KOp f) m → Rule2 Offset at (KOp f) m
-    segment_offset : {role : Role} {rest : Sort} {at : ℕ} {k : Key} {m : Move} → Rule2 Offset at k m → Rule2 (SegmentHead role rest) at k (before_sort m rest)
+    segment_offset : {role : Role} {rest : Sort} {at : ℕ} {k : Key} {m : Move} → Rule2 Offset at k m
+        → Rule2 (SegmentHead role rest) at k (before_sort m rest)
     -- (result t) of a block
-    labelled_yield : {p : Place} {at : ℕ} → Rule2 (After MayLabel p) at (KGroup Result) (gives [] (YieldType ∷ Closing ∷ After NoTail p ∷ []))
-    yield : {p : Place} {at : ℕ} → Rule2 (After MayYield p) at (KGroup Result) (gives [] (YieldType ∷ Closing ∷ After NoTail p ∷ []))
-    -- folded instructions: (plain folded*), (block id? (result t)? instr*), (if id? (result t)? folded* (then instr*) (else instr*)?)
+    labelled_yield : {p : Place} {at : ℕ}
+        → Rule2 (After MayLabel p) at (KGroup Result) (gives [] (YieldType ∷ Closing ∷ After NoTail p ∷ []))
+    yield : {p : Place} {at : ℕ}
+        → Rule2 (After MayYield p) at (KGroup Result) (gives [] (YieldType ∷ Closing ∷ After NoTail p ∷ []))
+    -- folded instructions: (plain folded*), (block id? (result t)? instr*),
+    -- (if id? (result t)? folded* (then instr*) (else instr*)?)
     folded : {tail : Tail} {p : Place} {f : Form} {at : ℕ} → takes_folded p ≡ true → allowed ct (KOp f) ≡ true →
-        Rule2 (After tail p) at (KOp f) (gives (Fold ∷ pieces_of f) (operands_of f (After (tail_of f) InOperands ∷ After NoTail p ∷ [])))
+        Rule2 (After tail p) at (KOp f)
+        (gives (Fold ∷ pieces_of f) (operands_of f (After (tail_of f) InOperands ∷ After NoTail p ∷ [])))
     folded_block : {tail : Tail} {p : Place} {at : ℕ} → takes_folded p ≡ true →
-        Rule2 (After tail p) at (KShape OfBlock) (gives (Opens OfBlock ∷ []) (After MayLabel InFolded ∷ After NoTail p ∷ []))
+        Rule2 (After tail p) at (KShape OfBlock)
+        (gives (Opens OfBlock ∷ []) (After MayLabel InFolded ∷ After NoTail p ∷ []))
     folded_loop : {tail : Tail} {p : Place} {at : ℕ} → takes_folded p ≡ true →
-        Rule2 (After tail p) at (KShape OfLoop) (gives (Opens OfLoop ∷ []) (After MayLabel InFolded ∷ After NoTail p ∷ []))
+        Rule2 (After tail p) at (KShape OfLoop)
+        (gives (Opens OfLoop ∷ []) (After MayLabel InFolded ∷ After NoTail p ∷ []))
     folded_if : {tail : Tail} {p : Place} {at : ℕ} → takes_folded p ≡ true →
-        Rule2 (After tail p) at (KShape OfIf) (gives (Fold ∷ Opens OfIf ∷ []) (After MayLabel InConditions ∷ After NoTail p ∷ []))
-    then : {tail : Tail} {at : ℕ} → Rule2 (After tail InConditions) at KThen (gives (Unfold ∷ []) (After NoTail InThen ∷ []))
+        Rule2 (After tail p) at (KShape OfIf)
+        (gives (Fold ∷ Opens OfIf ∷ []) (After MayLabel InConditions ∷ After NoTail p ∷ []))
+    then : {tail : Tail} {at : ℕ}
+        → Rule2 (After tail InConditions) at KThen (gives (Unfold ∷ []) (After NoTail InThen ∷ []))
     else : {at : ℕ} → Rule2 AfterThen at KElse (gives (Else ∷ []) (After NoTail InElse ∷ []))
 
   -- These sorts, one after another, are these tokens and stand for these pieces.
@@ -399,7 +463,8 @@ module _ (ct : Bool) where
     done : Derives [] [] []
     by_token : {s : Sort} {t : Tok} {m : Move} {st : List Sort} {ts : List Tok} {ps : List Piece} → Rule1 s t m →
         Derives (m.next ++ st) ts ps → Derives (s ∷ st) (t ∷ ts) (m.out ++ ps)
-    by_open : {s : Sort} {at : ℕ} {k : Key} {m : Move} {st : List Sort} {ts : List Tok} {ps : List Piece} → Rule2 s at k m →
+    by_open : {s : Sort} {at : ℕ} {k : Key} {m : Move} {st : List Sort} {ts : List Tok} {ps : List Piece}
+        → Rule2 s at k m →
         Derives (m.next ++ st) ts ps → Derives (s ∷ st) (Open at ∷ Word k ∷ ts) (m.out ++ ps)
 
 -- a module's tokens and pieces; `ct` tells a CT module

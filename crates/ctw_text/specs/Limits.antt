@@ -25,7 +25,8 @@ abbrev pub over : Bool → What → ℕ → List Excess
 over b what limit = cond b (excess what limit ∷ []) []
 
 abbrev pub entry_excess : WideEntry → List Excess
-entry_excess e = over (nat_lt 1000 (length e.type.params)) Params 1000 ++ over (nat_lt 1 (length e.type.results)) Results 1
+entry_excess e =
+    over (nat_lt 1000 (length e.type.params)) Params 1000 ++ over (nat_lt 1 (length e.type.results)) Results 1
 
 abbrev pub is_table : Import Label → Bool
 is_table i = of i.kind
@@ -76,11 +77,13 @@ runs (t ∷ ts) = longer (begins t ts) (runs ts)
 abbrev pub locals_excess : (mine before : ℕ) → List ℕ → List Excess
 locals_excess mine before [] = []
 locals_excess mine before (n ∷ ns) =
-    over (nat_lt 50000 (mine + n)) Locals 50000 ++ over (nat_lt 1000000 (before + mine + n)) Locals 1000000 ++ locals_excess (mine + n) before ns
+    over (nat_lt 50000 (mine + n)) Locals 50000 ++ over (nat_lt 1000000 (before + mine + n)) Locals 1000000
+    ++ locals_excess (mine + n) before ns
 
 abbrev pub function_excess : (before : ℕ) → List WideFunction → List Excess
 function_excess before [] = []
-function_excess before (f ∷ fs) = locals_excess 0 before (runs f.locals) ++ nesting_excess 0 f.code ++ function_excess (before + length f.locals) fs
+function_excess before (f ∷ fs) =
+    locals_excess 0 before (runs f.locals) ++ nesting_excess 0 f.code ++ function_excess (before + length f.locals) fs
 
 -- in the order in which a reader of the module's bytes meets them
 abbrev pub excess_of : Wide → List Excess
@@ -109,7 +112,9 @@ narrow m = record {
   profile = Divide;
   types = map (λ (e : WideEntry). record { base = e.base; type = narrow_type e.type }) m.types;
   imports = m.imports;
-  functions = map (λ (f : WideFunction). record { type = f.type; locals = f.locals; body = body_of (nested f.code) }) m.functions;
+  functions =
+      map
+      (λ (f : WideFunction). record { type = f.type; locals = f.locals; body = body_of (nested f.code) }) m.functions;
   table = first m.tables;
   memory = first m.memories;
   globals = m.globals;

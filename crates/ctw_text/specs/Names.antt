@@ -1,4 +1,5 @@
--- The third pass: what names and typeuses stand for, and the faults among them (W3C WebAssembly Core 1.0, sections 6.3.5, 6.6.1, 6.6.3).
+-- The third pass: what names and typeuses stand for, and the faults among them (W3C WebAssembly Core 1.0,
+-- sections 6.3.5, 6.6.1, 6.6.3).
 use Rattle.std.specs.Prelude.{ℕ, zero, suc, ◌||◌, ◌+◌, ◌/◌, ◌==◌, ◌&&◌, nat_le, not, Bool, true, false, cond, List, [], ◌∷◌, ◌++◌, Option, Some, None, option_map, unwrap_or, map, length, drop, Result, Ok, Err, slice_get, position, bytes_eq, flat_map, filter, filter_map, fold, is_some}
 use Rattle.std.specs.List.{list_any}
 use Rattle.ctw_ops.specs.declared.types.Label.{Label}
@@ -60,7 +61,8 @@ use_faults names (Named w) = unless (list_any (is_named w) names) (fault_at Unkn
 abbrev pub double_faults : (before names : List (Option Name)) → List NameFault
 double_faults before [] = []
 double_faults before (None ∷ ns) = double_faults before ns
-double_faults before (Some w ∷ ns) = unless (not (list_any (is_named w) before)) (fault_at DoubleName w) ++ double_faults (Some w ∷ before) ns
+double_faults before (Some w ∷ ns) =
+    unless (not (list_any (is_named w) before)) (fault_at DoubleName w) ++ double_faults (Some w ∷ before) ns
 
 -- Types
 
@@ -373,7 +375,8 @@ abbrev pub import_of : Space → Field → List (Import Label)
 import_of S f = of (tag_of f) f.draft.from
   where
     of : Option ExternTag → Option (List ℕ) → List (Import Label)
-    of (Some tag) (Some from) = record { module_name = from; name = f.draft.imported; kind = import_kind S tag f.draft } ∷ []
+    of (Some tag) (Some from) =
+        record { module_name = from; name = f.draft.imported; kind = import_kind S tag f.draft } ∷ []
     of _ _ = []
 
 abbrev pub function_of : Space → Field → WideFunction
@@ -417,7 +420,12 @@ abbrev pub exports_in : Space → Counts → Field → List Export
 exports_in S c f = of f.kind
   where
     of : FieldKind → List Export
-    of ExportField = record { name = f.draft.title; kind = f.draft.kind; index = index_or_zero (names_of S f.draft.kind) f.draft.target } ∷ []
+    of ExportField =
+        record {
+          name = f.draft.title;
+          kind = f.draft.kind;
+          index = index_or_zero (names_of S f.draft.kind) f.draft.target;
+        } ∷ []
     of (Defining tag) = map (λ name. record { name = name; kind = tag; index = count_of c tag }) f.draft.exports
     of _ = []
 
@@ -428,16 +436,28 @@ elements_in S c f = of f.kind
     functions = map (find S.funcs) f.draft.items
 
     of : FieldKind → List (Element Label)
-    of ElemField = record { table = index_or_zero S.tables f.draft.target; offset = constant_in S f.draft.code; functions = functions } ∷ []
-    of (Defining Table) = cond f.draft.inline (record { table = c.tables; offset = zero_offset; functions = functions } ∷ []) []
+    of ElemField =
+        record {
+          table = index_or_zero S.tables f.draft.target;
+          offset = constant_in S f.draft.code;
+          functions = functions;
+        } ∷ []
+    of (Defining Table) =
+        cond f.draft.inline (record { table = c.tables; offset = zero_offset; functions = functions } ∷ []) []
     of _ = []
 
 abbrev pub segments_in : Space → Counts → Field → List (Segment Label)
 segments_in S c f = of f.kind
   where
     of : FieldKind → List (Segment Label)
-    of DataField = record { memory = index_or_zero S.memories f.draft.target; offset = constant_in S f.draft.code; bytes = bytes_in f.draft } ∷ []
-    of (Defining Memory) = cond f.draft.inline (record { memory = c.memories; offset = zero_offset; bytes = bytes_in f.draft } ∷ []) []
+    of DataField =
+        record {
+          memory = index_or_zero S.memories f.draft.target;
+          offset = constant_in S f.draft.code;
+          bytes = bytes_in f.draft;
+        } ∷ []
+    of (Defining Memory) =
+        cond f.draft.inline (record { memory = c.memories; offset = zero_offset; bytes = bytes_in f.draft } ∷ []) []
     of _ = []
 
 -- what each field gives, with how many of each kind stand before it
@@ -454,7 +474,8 @@ type_of S f = record { base = option_map (find S.types) f.draft.target; type = s
 abbrev pub plain_entry : Spelled → WideEntry
 plain_entry t = record { base = None; type = t }
 
--- Custom sections stand behind the last section up to theirs that has items, those of one place in the order of the text
+-- Custom sections stand behind the last section up to theirs that has items,
+-- those of one place in the order of the text
 
 abbrev pub is_empty : {X : Type 0} → List X → Bool
 is_empty [] = true
@@ -463,8 +484,10 @@ is_empty (x ∷ xs) = false
 -- whether the sections from 1 to 11 have items
 abbrev pub sections_with : Wide → List Bool
 sections_with m =
-    not (is_empty m.types) ∷ not (is_empty m.imports) ∷ not (is_empty m.functions) ∷ not (is_empty m.tables) ∷ not (is_empty m.memories) ∷ not (is_empty m.globals)
-    ∷ not (is_empty m.exports) ∷ not (is_empty m.start) ∷ not (is_empty m.elements) ∷ not (is_empty m.functions) ∷ not (is_empty m.segments) ∷ []
+    not (is_empty m.types) ∷ not (is_empty m.imports) ∷ not (is_empty m.functions) ∷ not (is_empty m.tables)
+    ∷ not (is_empty m.memories) ∷ not (is_empty m.globals)
+    ∷ not (is_empty m.exports) ∷ not (is_empty m.start) ∷ not (is_empty m.elements) ∷ not (is_empty m.functions)
+    ∷ not (is_empty m.segments) ∷ []
 
 -- the last of the sections from `at` on, up to n of them, that has items, else `before`
 abbrev pub last_with : (n at before : ℕ) → List Bool → ℕ
@@ -473,7 +496,8 @@ last_with (suc n) at before [] = before
 last_with (suc n) at before (h ∷ has) = last_with n (suc at) (cond h at before) has
 
 abbrev pub custom_of : List Bool → Field → Custom
-custom_of has f = record { place = last_with (first f.draft.numbers) 1 0 has; name = f.draft.title; bytes = bytes_in f.draft }
+custom_of has f =
+    record { place = last_with (first f.draft.numbers) 1 0 has; name = f.draft.title; bytes = bytes_in f.draft }
   where
     first : List ℕ → ℕ
     first [] = 0
@@ -510,7 +534,8 @@ wide_of ct fs =
 
 abbrev pub function_faults : Space → Field → List NameFault
 function_faults S f =
-    entry_faults S f.draft.sig.entry f.draft.sig ++ double_faults [] (names_in f.draft.sig.params ++ names_in f.draft.locals)
+    entry_faults S f.draft.sig.entry f.draft.sig
+    ++ double_faults [] (names_in f.draft.sig.params ++ names_in f.draft.locals)
     ++ body_faults (record { space = S; locals = local_names S f.draft }) [] (unfolded [] f.draft.code)
 
 abbrev pub maybe_faults : List (Option Name) → Option Index → List NameFault
@@ -536,14 +561,17 @@ field_faults S f = of f.kind
     of (Defining tag) = extern tag
     of ExportField = maybe_faults (names_of S f.draft.kind) f.draft.target
     of StartField = maybe_faults S.funcs f.draft.target
-    of ElemField = maybe_faults S.tables f.draft.target ++ constant_faults S f.draft.code ++ flat_map (use_faults S.funcs) f.draft.items
+    of ElemField =
+        maybe_faults S.tables f.draft.target ++ constant_faults S f.draft.code
+        ++ flat_map (use_faults S.funcs) f.draft.items
     of DataField = maybe_faults S.memories f.draft.target ++ constant_faults S f.draft.code
     of CustomField = []
 
 abbrev pub faults_of : List Field → List NameFault
 faults_of fs =
     let S = space_of fs in
-    double_faults [] S.types ++ double_faults [] S.funcs ++ double_faults [] S.tables ++ double_faults [] S.memories ++ double_faults [] S.globals
+    double_faults [] S.types ++ double_faults [] S.funcs ++ double_faults [] S.tables ++ double_faults [] S.memories
+    ++ double_faults [] S.globals
     ++ flat_map (field_faults S) fs
 
 abbrev pub nearer : NameFault → Option NameFault → NameFault

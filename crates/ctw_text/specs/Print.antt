@@ -124,7 +124,8 @@ print_result (Some t) rest = blank ∷ open_ ∷ key (KGroup k.Part.Result) ∷ 
 
 -- a const's number is signed
 abbrev pub print_bits : Width → ℕ → List Ink → List Ink
-print_bits w bits rest = cond (nat_lt bits (2 ^ (bits_in w - 1))) (num bits) (Mark (Negative (2 ^ bits_in w - bits))) ∷ rest
+print_bits w bits rest =
+    cond (nat_lt bits (2 ^ (bits_in w - 1))) (num bits) (Mark (Negative (2 ^ bits_in w - bits))) ∷ rest
 
 abbrev pub natural : ℕ → ℕ
 natural bytes = cond (bytes == 1) 0 (cond (bytes == 2) 1 (cond (bytes == 4) 2 3))
@@ -157,9 +158,11 @@ print_leaf (ops.LocalTee n) rest = print_indexed k.LocalTee n rest
 print_leaf (ops.GlobalGet n) rest = print_indexed k.GlobalGet n rest
 print_leaf (ops.GlobalSet n) rest = print_indexed k.GlobalSet n rest
 print_leaf (ops.Load w l bytes signed align offset) rest =
-    key (KOp (k.Access (ops.Load w l bytes signed (natural bytes) 0))) ∷ print_offset offset (print_align (natural bytes) align rest)
+    key (KOp (k.Access (ops.Load w l bytes signed (natural bytes) 0)))
+    ∷ print_offset offset (print_align (natural bytes) align rest)
 print_leaf (ops.Store w l bytes align offset) rest =
-    key (KOp (k.Access (ops.Store w l bytes (natural bytes) 0))) ∷ print_offset offset (print_align (natural bytes) align rest)
+    key (KOp (k.Access (ops.Store w l bytes (natural bytes) 0)))
+    ∷ print_offset offset (print_align (natural bytes) align rest)
 print_leaf (ops.Const w l bits) rest = key (KOp (k.Const w l)) ∷ blank ∷ print_bits w bits rest
 print_leaf leaf rest = key (KOp (k.Bare leaf)) ∷ rest
 
@@ -167,18 +170,24 @@ print_leaf leaf rest = key (KOp (k.Bare leaf)) ∷ rest
 abbrev pub print_code : Code Label → List Ink → List Ink
 print_code ops.Stop rest = rest
 print_code (ops.Then leaf more) rest = line4 ∷ print_leaf leaf (print_code more rest)
-print_code (ops.Block t body more) rest = line4 ∷ key (KShape OfBlock) ∷ print_result t (print_code body (line4 ∷ key KEnd ∷ print_code more rest))
-print_code (ops.Loop t body more) rest = line4 ∷ key (KShape OfLoop) ∷ print_result t (print_code body (line4 ∷ key KEnd ∷ print_code more rest))
-print_code (ops.If t arm more) rest = line4 ∷ key (KShape OfIf) ∷ print_result t (print_code arm (line4 ∷ key KEnd ∷ print_code more rest))
+print_code (ops.Block t body more) rest =
+    line4 ∷ key (KShape OfBlock) ∷ print_result t (print_code body (line4 ∷ key KEnd ∷ print_code more rest))
+print_code (ops.Loop t body more) rest =
+    line4 ∷ key (KShape OfLoop) ∷ print_result t (print_code body (line4 ∷ key KEnd ∷ print_code more rest))
+print_code (ops.If t arm more) rest =
+    line4 ∷ key (KShape OfIf) ∷ print_result t (print_code arm (line4 ∷ key KEnd ∷ print_code more rest))
 print_code (ops.IfElse t arm other more) rest =
-    line4 ∷ key (KShape OfIf) ∷ print_result t (print_code arm (line4 ∷ key KElse ∷ print_code other (line4 ∷ key KEnd ∷ print_code more rest)))
+    line4 ∷ key (KShape OfIf)
+    ∷ print_result t
+    (print_code arm (line4 ∷ key KElse ∷ print_code other (line4 ∷ key KEnd ∷ print_code more rest)))
 
 abbrev pub print_trust : Trust → List Ink → List Ink
 print_trust Untrusted rest = rest
 print_trust Trusted rest = blank ∷ key KTrusted ∷ rest
 
 abbrev pub print_type : FunctionType Label → List Ink → List Ink
-print_type t rest = open_ ∷ key (KExtern Func) ∷ print_trust t.trust (print_group Param t.params (print_result t.result (close ∷ rest)))
+print_type t rest =
+    open_ ∷ key (KExtern Func) ∷ print_trust t.trust (print_group Param t.params (print_result t.result (close ∷ rest)))
 
 abbrev pub print_entry : Option ℕ → FunctionType Label → List Ink → List Ink
 print_entry None t rest = print_type t rest
@@ -225,10 +234,14 @@ abbrev pub print_string : List ℕ → List Ink → List Ink
 print_string bs rest = Mark (Quote bs) ∷ rest
 
 abbrev pub print_import : Import Label → List Ink → List Ink
-print_import i rest = field KImport (print_string i.module_name (blank ∷ print_string i.name (blank ∷ print_extern i.kind (close ∷ rest))))
+print_import i rest =
+    field KImport
+    (print_string i.module_name (blank ∷ print_string i.name (blank ∷ print_extern i.kind (close ∷ rest))))
 
 abbrev pub print_function : Function Label → List Ink → List Ink
-print_function f rest = line2 ∷ open_ ∷ key (KExtern Func) ∷ print_use f.type (print_group Local f.locals (print_code f.body (line2 ∷ close ∷ rest)))
+print_function f rest =
+    line2 ∷ open_ ∷ key (KExtern Func)
+    ∷ print_use f.type (print_group Local f.locals (print_code f.body (line2 ∷ close ∷ rest)))
 
 abbrev pub print_table_field : Limits → List Ink → List Ink
 print_table_field l rest = field (KExtern Table) (print_table l (close ∷ rest))
@@ -237,14 +250,17 @@ abbrev pub print_memory_field : MemoryType Label → List Ink → List Ink
 print_memory_field m rest = field (KExtern Memory) (print_memory m (close ∷ rest))
 
 abbrev pub print_constant : Constant Label → List Ink → List Ink
-print_constant (tree.Number t bits) rest = open_ ∷ key (KOp (k.Const t.width t.tag)) ∷ blank ∷ print_bits t.width bits (close ∷ rest)
+print_constant (tree.Number t bits) rest =
+    open_ ∷ key (KOp (k.Const t.width t.tag)) ∷ blank ∷ print_bits t.width bits (close ∷ rest)
 print_constant (tree.ValueOf n) rest = open_ ∷ print_indexed k.GlobalGet n (close ∷ rest)
 
 abbrev pub print_global : tree.Global Label → List Ink → List Ink
 print_global g rest = field (KExtern Global) (print_global_type g.type (blank ∷ print_constant g.init (close ∷ rest)))
 
 abbrev pub print_export : Export → List Ink → List Ink
-print_export e rest = field KExport (print_string e.name (blank ∷ open_ ∷ key (KExtern e.kind) ∷ blank ∷ num e.index ∷ close ∷ close ∷ rest))
+print_export e rest =
+    field KExport
+    (print_string e.name (blank ∷ open_ ∷ key (KExtern e.kind) ∷ blank ∷ num e.index ∷ close ∷ close ∷ rest))
 
 abbrev pub print_start : ℕ → List Ink → List Ink
 print_start n rest = field KStart (num n ∷ close ∷ rest)
@@ -256,7 +272,8 @@ abbrev pub print_segment : Segment Label → List Ink → List Ink
 print_segment s rest = field KData (print_constant s.offset (blank ∷ print_string s.bytes (close ∷ rest)))
 
 abbrev pub print_custom : Custom → List Ink → List Ink
-print_custom c rest = field KCustom (num c.place ∷ blank ∷ print_string c.name (blank ∷ print_string c.bytes (close ∷ rest)))
+print_custom c rest =
+    field KCustom (num c.place ∷ blank ∷ print_string c.name (blank ∷ print_string c.bytes (close ∷ rest)))
 
 abbrev pub print_maybe : {X : Type 0} → (X → List Ink → List Ink) → Option X → List Ink → List Ink
 print_maybe print None rest = rest
@@ -272,7 +289,9 @@ print_segments m rest =
 
 abbrev pub print_definitions : Module Label → List Ink → List Ink
 print_definitions m rest =
-    print_each print_function m.functions (print_maybe print_table_field m.table (print_maybe print_memory_field m.memory (print_each print_global m.globals
+    print_each print_function m.functions
+    (print_maybe print_table_field m.table
+    (print_maybe print_memory_field m.memory (print_each print_global m.globals
     (print_each print_export m.exports (print_maybe print_start m.start (print_segments m rest))))))
 
 abbrev pub print_fields : Module Label → List Ink → List Ink

@@ -67,7 +67,9 @@ holds_word inner (b ∷ bs) = begins_with inner (b ∷ bs) || holds_word inner b
 
 -- it begins with `f32` or `f64` or holds `_f32` or `_f64`
 abbrev pub names_float : List ℕ → Bool
-names_float w = begins_with (codes "f32") w || begins_with (codes "f64") w || holds_word (codes "_f32") w || holds_word (codes "_f64") w
+names_float w =
+    begins_with (codes "f32") w || begins_with (codes "f64") w || holds_word (codes "_f32") w
+    || holds_word (codes "_f64") w
 
 abbrev pub or_else : Option Tok → Tok → Tok
 or_else (Some t) instead = t
