@@ -1,0 +1,24 @@
+pub mod Pairs
+pub mod Within
+pub mod Folds
+pub mod Leading
+pub mod Parts
+pub mod SoundSets
+pub mod Loading
+pub mod SoundStores
+pub mod SoundLaunch
+pub mod FirstValues
+pub mod FirstOutside
+pub mod Starting
+pub mod Ends
+pub mod ErasedLinks
+pub mod ErasedFormed
+pub mod ErasedValid
+pub mod ErasedSmall
+pub mod ErasedMatch
+pub mod ErasedLoad
+pub mod ErasedLaunch
+pub mod PartSets
+pub mod OwnedInstances
+pub mod Untrusted
+mod Examples

@@ -1,0 +1,3 @@
+pub mod Launched
+pub mod Outcomes
+pub mod ErasedSets

@@ -1,0 +1,10 @@
+pub mod States
+pub mod Arguments
+pub mod Moves
+pub mod Refusals
+pub mod Slots
+pub mod Runs
+pub mod SeenStates
+pub mod SoundStates
+pub mod ErasedRuns
+pub mod LaunchedStates
