@@ -1,0 +1,11 @@
+pub mod Shown
+pub mod Stands
+pub mod Told
+pub mod Leaving
+pub mod Calls
+pub mod SetInstances
+pub mod Reducing
+pub mod Changes
+pub mod Stepping
+pub mod Machine
+pub mod Turning
