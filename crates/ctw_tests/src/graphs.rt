@@ -21,6 +21,25 @@ fn graph_of(
     Ok(graph)
 }
 
+// Whether all of these links are between nodes below a count.
+fn are_links(nodes: u32, links: &[(u32, u32, u8)]) -> bool
+    ensures { IsTrue result → All (λ l. (l.0 < nodes) × (l.1 < nodes)) links.now }
+{
+    links.iter().all(|link| link.0 < nodes && link.1 < nodes)
+}
+
+// A graph with these links, made at once.
+fn graph_at_once(
+    alloc: Global,
+    rt: &impl Abort,
+    nodes: u32,
+    links: &[(u32, u32, u8)],
+) -> Result<Graph, Fail> {
+    let listed = Vec::from_slice(alloc, links)?;
+    assert!(rt; are_links(nodes, listed.as_slice()));
+    Ok(Graph::from_rows(alloc, nodes, listed)?)
+}
+
 // Whether a path has these nodes and, for each but the first, these rules.
 fn is_path(path: &Path, nodes: &[u32], rules: &[u8]) -> bool {
     if path.count() as usize != nodes.len() || nodes.len() != rules.len() + 1 {
@@ -81,17 +100,8 @@ fn is_shown(
     }
 }
 
-#[test]
-fn of_several_links_the_least_rule_is_kept(rt: HostRuntime) -> Result<(), Fail> {
-    let links = [
-        (0, 2, 7),
-        (0, 1, 5),
-        (0, 2, 4),
-        (0, 2, 6),
-        (1, 0, 9),
-        (1, 1, 3),
-    ];
-    let graph = graph_of(rt.alloc(), &rt, 3, &links)?;
+// Asserts of a graph of three nodes its links from each, and its rule between each two.
+fn assert_links(graph: &Graph, rt: &impl Abort) -> Result<(), Fail> {
     for (from, out) in [
         (0, [Some((1, 5)), Some((2, 4)), None]),
         (1, [Some((0, 9)), Some((1, 3)), None]),
@@ -122,6 +132,20 @@ fn of_several_links_the_least_rule_is_kept(rt: HostRuntime) -> Result<(), Fail> 
 }
 
 #[test]
+fn of_several_links_the_least_rule_is_kept(rt: HostRuntime) -> Result<(), Fail> {
+    let links = [
+        (0, 2, 7),
+        (0, 1, 5),
+        (0, 2, 4),
+        (0, 2, 6),
+        (1, 0, 9),
+        (1, 1, 3),
+    ];
+    assert_links(&graph_of(rt.alloc(), &rt, 3, &links)?, &rt)?;
+    assert_links(&graph_at_once(rt.alloc(), &rt, 3, &links)?, &rt)
+}
+
+#[test]
 fn reached_are_the_nodes_behind_a_start(rt: HostRuntime) -> Result<(), Fail> {
     let links = [
         (0, 1, 1),
@@ -131,7 +155,7 @@ fn reached_are_the_nodes_behind_a_start(rt: HostRuntime) -> Result<(), Fail> {
         (4, 5, 1),
         (5, 5, 1),
     ];
-    let graph = graph_of(rt.alloc(), &rt, 7, &links)?;
+    let graph = graph_at_once(rt.alloc(), &rt, 7, &links)?;
     let cases: [(&[u32], &[u32]); 6] = [
         (&[0], &[0, 1, 2]),
         (&[3], &[0, 1, 2, 3]),

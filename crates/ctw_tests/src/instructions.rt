@@ -2,7 +2,9 @@ ghost use Rattle.std.specs.Prelude.{◌<◌, ◌^◌, length};
 
 use crate::cases::{agrees, bytes_in};
 use crate::question;
-use ctw_flat::{BlockMap, Body, CodeFault, CodeKind, Instr, build, is_float_opcode};
+use ctw_flat::{
+    BlockBuilder, BlockMap, Body, CodeFault, CodeKind, Instr, Targets, build, is_float_opcode,
+};
 use ctw_ops::num_op;
 use std::alloc::{AllocError, Global};
 use std::process::Abort;
@@ -146,8 +148,8 @@ fn both_forms(code: u8) -> (Option<CodeFault>, Option<CodeFault>) {
     (front_fault(&[code]), front_fault(&[0xE0, code]))
 }
 
-/// The numeric opcodes of the standard and of its sign extensions have both forms, those of floats are told, and bytes that
-/// are left free are bad.
+/// The numeric opcodes of the standard and of its sign extensions have both forms, those of floats are told, and bytes
+/// that are left free are bad.
 #[test]
 fn opcodes_are_those_of_the_standard(rt: HostRuntime) {
     let numeric = [
@@ -206,6 +208,37 @@ fn an_instruction_is_read_where_it_stands(rt: HostRuntime) {
     let body = Body::new(&[0x01, 0x20, 0x05, 0x0B]);
     assert!(rt; body.code().len() == 4);
     assert!(rt; body.instr_at(1) == Ok((Instr::LocalGet { index: 5 }, 3)));
+}
+
+#[test]
+fn targets_are_read_in_order_and_by_their_index(rt: HostRuntime) {
+    // br_table 3 300 0, else 1: the second and the third number aren't spelled in the least bytes
+    let body = Body::new(&[0x0E, 0x03, 0x03, 0xAC, 0x82, 0x00, 0x80, 0x00, 0x01]);
+    match body.instr_at(0) {
+        Ok(
+            (
+                Instr::BrTable {
+                    targets,
+                    count,
+                    otherwise,
+                },
+                next,
+            ),
+        ) => {
+            assert!(rt; count == 3 && otherwise == 1 && next == 9);
+            for (index, want) in [(0, Some(3)), (1, Some(300)), (2, Some(0)), (3, None)] {
+                assert!(rt;
+                    Targets::new(targets, count).target(index) == want,
+                    "{index}"
+                );
+            }
+            let mut left = Targets::new(targets, count);
+            for want in [Some(3), Some(300), Some(0), None, None] {
+                assert!(rt; left.next() == want);
+            }
+        }
+        _ => panic!(rt; "no branch table"),
+    }
 }
 
 /// That the bytes spell a body, or the first fault in them.
@@ -280,4 +313,24 @@ fn the_deepest_block_is_the_4096th(rt: HostRuntime) {
     assert!(rt; deep.len() < 100_000);
     let row = "too deep => TooDeep at byte 8192 of the body";
     agrees(&rt, row, built(rt.alloc(), &deep));
+}
+
+#[test]
+fn bodies_one_after_another_have_their_own_blocks(rt: HostRuntime) {
+    let mut builder = BlockBuilder::new(rt.alloc()).expect(&rt, "memory");
+    // an open block, block and end, nothing, loop and end
+    let bodies: [(&[u8], Option<(usize, Option<usize>)>); 4] = [
+        (&[0x02, 0x40], None),
+        (&[0x02, 0x40, 0x0B, 0x0B], Some((2, None))),
+        (&[0x0B], None),
+        (&[0x03, 0x40, 0x01, 0x0B, 0x0B], Some((3, None))),
+    ];
+    for (bytes, want) in bodies {
+        assert!(rt; bytes.len() < 10);
+        let ends = match builder.build(rt.alloc(), &Body::new(bytes)) {
+            Ok(map) => map.ends(0),
+            Err(_) => None,
+        };
+        assert!(rt; ends == want);
+    }
 }

@@ -1,7 +1,7 @@
 //! Tests of the library crates: values from outside, and each public call once where memory is ample.
 //!
-//! A crate with tests is proved twice, so the tests of all crates stand in two light ones, here and in those of the command
-//! line. What this crate offers to others is how rows of a table of cases are read.
+//! A crate with tests is proved twice, so the tests of all crates stand in two light ones, here and in those of the
+//! command line. What this crate offers to others is how rows of a table of cases are read.
 #![tactic(auto)]
 
 mod rows;
@@ -11,8 +11,6 @@ pub use rows::{answer, bytes_of, question};
 #[cfg(test)]
 mod arithmetic;
 #[cfg(test)]
-mod bodies;
-#[cfg(test)]
 mod cases;
 #[cfg(test)]
 mod files;
@@ -21,24 +19,14 @@ mod graphs;
 #[cfg(test)]
 mod instructions;
 #[cfg(test)]
-mod linked_sets;
-#[cfg(test)]
-mod module_views;
-#[cfg(test)]
 mod numbers;
 #[cfg(test)]
 mod operand_stack;
 #[cfg(test)]
 mod operations;
 #[cfg(test)]
-mod reading;
-#[cfg(test)]
 mod scripts;
 #[cfg(test)]
 mod stores;
 #[cfg(test)]
 mod text_tokens;
-#[cfg(test)]
-mod validity;
-#[cfg(test)]
-mod writing;

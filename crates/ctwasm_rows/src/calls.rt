@@ -1,5 +1,5 @@
 use crate::rows::{ADDER, SUM, sum_says};
-use crate::runs::{is_sealed, says, shelf_of, writes};
+use crate::runs::{USAGE, is_sealed, says, shelf_of, writes};
 use ctw_io::Shelf;
 use ctw_tests::{answer, question};
 use ctwasm_top::Status;
@@ -13,20 +13,15 @@ const UNTYPED: &str = "\
 const CONSTANT: &str = "\
 00 61 73 6D 01 00 43 54 01 05 01 60 00 01 7F 03 02 01 00 07 05 01 01 66 00 00 0A 06 01 04 00 41 7E 0B";
 
-/// Words over the adder `m`, a vault `v` of four bytes, the adder without a type, and a module without anything, and why they
-/// are refused.
+/// Words over the adder `m`, a vault `v` of four bytes, the adder without a type, and a module without anything, and
+/// why they are refused.
 const REFUSALS: &str = "\
 once v v s f * => refused SameFile v
 once m v v f * 7 => refused SameFile v
 once m v m f * 7 => refused SameFile m
 once v v v f => refused SameFile v
 once gone gone s f => refused SameFile gone
-once gone v gone f x => refused SameFile gone
-once m v s f * x => refused NotBuilt x
-once gone v s f -1 x => refused NotBuilt -1
-once m v s f * 4294967296 => refused NotBuilt 4294967296
-once m v s f * 00000000007 => refused NotBuilt 00000000007
-once m v s f ** 7 => refused NotBuilt **
+once gone v gone f -1 => refused SameFile gone
 once gone gone2 s f => refused Missing gone
 once header gone s f => refused Missing gone
 once header v s f => refused NotBuilt header
@@ -37,6 +32,59 @@ once m v s f => refused NotBuilt m
 once m v s f * => refused NotBuilt m
 once m v s f * 7 7 => refused NotBuilt m
 once m v s f * * => refused NotBuilt m
+once m v s f * 4294967296 => refused NotBuilt m
+once m v s f * 0x1_0000_0000 => refused NotBuilt m
+once m v s f * -2147483649 => refused NotBuilt m
+once m v s f 4294967296 7 => refused NotBuilt m
+once m v s f * 18446744073709551615 => refused NotBuilt m
+once m v s f * -9223372036854775808 => refused NotBuilt m
+";
+
+/// Arguments of the adder `m` over a vault that begins with 5, and what is sealed.
+const SUMS: &str = "\
+* 7 => 0C 00 00 00
+* +7 => 0C 00 00 00
+* 00000000007 => 0C 00 00 00
+* 0x7 => 0C 00 00 00
+* -1 => 04 00 00 00
+* 4294967295 => 04 00 00 00
+* 0xFFFF_ffff => 04 00 00 00
+* 2147483648 => 05 00 00 80
+* -2147483648 => 05 00 00 80
+* -0x8000_0000 => 05 00 00 80
+* 1_000 => ED 03 00 00
+* +0x1f => 24 00 00 00
+* 0 => 05 00 00 00
+* -0 => 05 00 00 00
+-3 7 => 04 00 00 00
+0xff -0x1 => FE 00 00 00
+4294967295 -2147483648 => FF FF FF 7F
+";
+
+/// Words that are no argument: no number as in a script, or one outside of -2^63 to 2^64 - 1.
+const NO_ARGUMENTS: &str = "\
+x
+**
+-
++
++-1
+--1
+-*
+0x
+0X7
+0xg
+-0x
+_1
+1_
+1__0
+0x_1
+1.0
+1e3
+7i
+18446744073709551616
+0x1_0000_0000_0000_0000
+-9223372036854775809
+-0x8000_0000_0000_0001
 ";
 
 #[test]
@@ -55,6 +103,12 @@ fn secret_results_are_sealed_and_public_ones_printed(rt: HostRuntime) {
             "",
             "began\ndone 2 i32 4294967294\n",
             "",
+        ),
+        (
+            "once m v s f -3 7",
+            "",
+            "began\ndone 4 secret\n",
+            "04 00 00 00",
         ),
         (SUM, "", short, ""),
         (SUM, "05 00 00", short, ""),
@@ -86,6 +140,45 @@ fn each_refusal_of_a_call_has_its_line(rt: HostRuntime) {
     for row in REFUSALS.lines() {
         let text = format!(in rt.alloc(); "{}\n", answer(row)).expect(&rt, "memory");
         says(&rt, rt.alloc(), question(row), &mut shelf, text.as_str());
+    }
+    assert!(rt; shelf.file("s").is_none());
+}
+
+#[test]
+fn numbers_are_written_as_in_scripts(rt: HostRuntime) {
+    let files = [("m", ADDER), ("v", "05 00 00 00")];
+    let mut shelf = shelf_of(&rt, rt.alloc(), &files);
+    for row in SUMS.lines() {
+        let line = format!(in rt.alloc(); "once m v s f {}", question(row)).expect(&rt, "memory");
+        says(
+            &rt,
+            rt.alloc(),
+            line.as_str(),
+            &mut shelf,
+            "began\ndone 4 secret\n",
+        );
+        is_sealed(&rt, rt.alloc(), &shelf, answer(row));
+    }
+}
+
+#[test]
+fn a_word_that_is_no_argument_is_a_wrong_use(rt: HostRuntime) {
+    let files = [("m", ADDER), ("v", "05 00 00 00")];
+    let mut shelf = shelf_of(&rt, rt.alloc(), &files);
+    for word in NO_ARGUMENTS.lines() {
+        // Before SameFile and before anything is loaded, too.
+        for words in ["m v s f *", "m v s f", "m m s f *", "gone v s f * 7"] {
+            let line = format!(in rt.alloc(); "once {words} {word}").expect(&rt, "memory");
+            let usage = USAGE.as_bytes();
+            writes(
+                &rt,
+                rt.alloc(),
+                line.as_str(),
+                &mut shelf,
+                Status::Usage,
+                usage,
+            );
+        }
     }
     assert!(rt; shelf.file("s").is_none());
 }

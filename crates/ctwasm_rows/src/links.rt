@@ -59,9 +59,10 @@ const FILES: [(&str, &str); 17] = [
     ("invalid", "070501016D0200"),
 ];
 
-/// Words over these files, and what they say: a later part doesn't serve, nor does the part itself, nor one of another name,
-/// and names come before imports; of tables the least comes first, though a later part mixes it; pages and entries are
-/// summed over definitions, pages first; all files are loaded before one is read, and all are read before they are linked.
+/// Words over these files, and what they say: a later part doesn't serve, nor does the part itself, nor one of another
+/// name, and names come before imports; of tables the least comes first, though a later part mixes it; pages and
+/// entries are summed over definitions, pages first; all files are loaded before one is read,
+/// and all are read before they are linked.
 const LINES: &str = "\
 link a=a b=b c=one => linked 3
 link a=a b=b c=two => refused link ImportType c 0 memory 2 - memory 1 -

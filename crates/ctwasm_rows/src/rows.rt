@@ -170,8 +170,8 @@ fn one_file_has_one_part_in_a_call(rt: HostRuntime) {
 /// Calls that fail.
 type Fails = &'static [u64];
 
-/// The sum over the vault 5, a shelf and a sink that fail at these calls, where the sink takes up to so many bytes a call, has
-/// this status and text. The shelf's first two calls fill it.
+/// The sum over the vault 5, a shelf and a sink that fail at these calls, where the sink takes up to so many bytes a
+/// call, has this status and text. The shelf's first two calls fill it.
 pub fn sum_says(
     rt: &impl Abort,
     alloc: Global,

@@ -4,18 +4,18 @@ use Rattle.std.specs.FinMap.{get}
 use Rattle.std.specs.Str.{bytes_eq}
 use Rattle.ctw_ops.specs.declared.types.Label.{Label}
 use Rattle.ctw_ops.specs.Tree.{Module}
-use Rattle.ctw_module.specs.declared.fault.FormFault.{FormFault}
+use Rattle.ctw_form.specs.declared.fault.FormFault.{FormFault}
 use Rattle.ctw_ops.specs.declared.numeric.Profile.TheVariants.{Divide}
 use Rattle.ctw_modcheck.specs.declared.fault.Invalid.{Invalid}
 use Rattle.ctw_modcheck.specs.Check.{fault_of}
 use Rattle.ctw_io.specs.Files.{Files}
 use Rattle.ctwasm_top.specs.declared.Status.{Status}
 use Rattle.ctwasm_top.specs.declared.Status.TheVariants as Statuses
-use Rattle.ctwasm_top.specs.declared.words.Argument.{Argument}
+use Rattle.ctw_script.specs.declared.moves.Arg.{Arg}
 use Rattle.ctwasm_top.specs.Session.{Callee, Move, State, opened, Run, plays}
 use Rattle.ctwasm_top.specs.Lines.{reply_lines}
-use Rattle.ctwasm_top.specs.Words.{OnceWords, Command, Check, Canon, Link, Once, command_of, vault_in, vault_word, same_file, Arguments, Read, NoArgument, arguments_of}
-use Rattle.ctwasm_top.specs.Answer.{Outcome, ends, on_file, module_limit, vault_limit, on_form, on_fault, callable, built, once_moves, finished, with_arguments, unless_same, once_call, once_answer, on_words, answer, releases, module_under}
+use Rattle.ctwasm_top.specs.Words.{OnceWords, Command, Check, Canon, Link, Once, command_of, vault_in, vault_word, same_file}
+use Rattle.ctwasm_top.specs.Answer.{Outcome, ends, on_file, module_limit, vault_limit, on_form, on_fault, callable, built, once_moves, finished, unless_same, once_call, once_answer, on_words, answer, releases, module_under}
 use Rattle.ctwasm_top.specs.Headline.{OtherVault, saved_size, SameOutcome}
 use Rattle.ctwasm_top.proofs.Seen.{Agree}
 use Rattle.ctwasm_top.proofs.Same.{Same, same_quiet, same_ends}
@@ -66,10 +66,6 @@ fault_same : (name : List ℕ) (o : Option Invalid) (p q : Outcome) → SameOutc
 fault_same name (Some fault) p q h = ends_same Statuses.Refused _
 fault_same name None p q h = h
 
-arguments_same : (r : Arguments) (go go' : List Argument → Outcome) → ((a : List Argument) → SameOutcomes (go a) (go' a)) → SameOutcomes (with_arguments r go) (with_arguments r go')
-arguments_same (NoArgument word) go go' h = ends_same Statuses.Refused _
-arguments_same (Read arguments) go go' h = h arguments
-
 -- the two vaults are opened, and all moves made
 finished_same : (sealed : List ℕ) (f : Callee) (moves : List Move) (s t : State) → Agree s t → SameOutcomes (finished sealed (plays f s moves)) (finished sealed (plays f t moves))
 finished_same sealed f moves s t e = record {
@@ -102,7 +98,7 @@ unless_alike None p q h = h refl
 unless_alike (Some word) p q h = ends_same Statuses.Refused _
 
 module _ (w : OnceWords) (f g : Files) (d : OtherVault w.vault f g) where
-  call_same : bytes_eq w.module_file w.vault ≡ false → (arguments : List Argument) → SameOutcomes (once_call f w arguments) (once_call g w arguments)
+  call_same : bytes_eq w.module_file w.vault ≡ false → (arguments : List Arg) → SameOutcomes (once_call f w arguments) (once_call g w arguments)
   call_same other arguments =
       file_same w.module_file module_limit (get f w.module_file) (get g w.module_file) _ _ (d.others w.module_file other) (λ bytes.
       vault_same w.vault vault_limit (get f w.vault) (get g w.vault) _ _ d.long (λ v v' e.
@@ -113,8 +109,7 @@ module _ (w : OnceWords) (f g : Files) (d : OtherVault w.vault f g) where
 
   once_same : SameOutcomes (once_answer f w) (once_answer g w)
   once_same = unless_alike (same_file w) _ _ (λ e.
-      arguments_same (arguments_of w.arguments) _ _ (call_same
-      (none_same (bytes_eq w.module_file w.vault) (bytes_eq w.sealed w.vault) (bytes_eq w.module_file w.sealed) w.vault w.sealed e)))
+      call_same (none_same (bytes_eq w.module_file w.vault) (bytes_eq w.sealed w.vault) (bytes_eq w.module_file w.sealed) w.vault w.sealed e) w.arguments)
 
 words_same : (o : Option Command) (vault : List ℕ) (f g : Files) → vault_in o ≡ Some vault → OtherVault vault f g → SameOutcomes (on_words f o) (on_words g o)
 words_same None vault f g e d = cc

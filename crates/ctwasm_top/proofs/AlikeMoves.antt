@@ -5,10 +5,16 @@ use Rattle.ctw_ops.specs.declared.types.Label.{Label}
 use Rattle.ctw_ops.specs.declared.types.Label.TheVariants.{Public, Secret}
 use Rattle.ctw_ops.specs.declared.types.Width.{Width}
 use Rattle.ctw_ops.specs.Types.{ValueType}
+use Rattle.ctw_ops.specs.Equal.{same_label}
 use Rattle.ctwasm_top.specs.Machine.{Value, value, Activation, Left, Running, Finished, Halted, Turned, turn}
-use Rattle.ctwasm_top.specs.declared.words.Argument.{Argument}
-use Rattle.ctwasm_top.specs.declared.words.Argument.TheVariants.{Number, Vault}
-use Rattle.ctwasm_top.specs.Session.{Callee, Move, Begin, Turn, Shown, Refusal, BadArgs, SlotBusy, SlotFree, VaultShort, TurnTooLong, Reply, Began, Done, State, Played, answered, refused, byte_count, from_bytes, to_bytes, fits_one, fits, needed, values, called, with_call, checked, free_slot, begin, most_steps, shown, sealed_by, turn_reply, turn_sealed, stays, turned, held, turning, play, Run, then_run, plays}
+use Rattle.ctw_script.specs.declared.moves.Arg.{Arg}
+use Rattle.ctw_script.specs.declared.moves.Arg.TheVariants.{Number, Vault}
+use Rattle.ctwasm_top.specs.Session.{Callee, Move, Begin, Turn, State, Played, answered, refused, byte_count, from_bytes, to_bytes, number_of, fits_one, fits, needed, values, called, with_call, checked, free_slot, begin, most_steps, shown, sealed_by, turn_reply, turn_sealed, stays, turned, held, turning, play, Run, plays}
+use Rattle.ctw_script.specs.declared.reply.Refusal.{Refusal}
+use Rattle.ctw_script.specs.declared.reply.Refusal.TheVariants.{BadArgs, SlotBusy, SlotFree, VaultShort, TurnTooLong}
+use Rattle.ctw_script.specs.declared.reply.Reply.{Reply}
+use Rattle.ctw_script.specs.declared.reply.Reply.TheVariants as reply
+use Rattle.ctw_script.specs.declared.reply.Reply.TheVariants.{Began, Done}
 use Rattle.ctwasm_top.proofs.Seen.{seen_number, seen_value, seen_values, seen, seen_left, hidden, seen_slot, seen_played, seen_run, Agree}
 use Rattle.ctwasm_top.proofs.Same.{Same, same_quiet, same_both}
 use Rattle.ctwasm_top.proofs.AlikeMachine.{both, SameTurned, turn_same}
@@ -38,21 +44,21 @@ sealed_length s t e = hidden_length s.sealed t.sealed (ap (λ (s : State). s.sea
 
 -- ---- arguments
 
-argument_alike : (t : ValueType Label) (v w : List ℕ) → fits_one t.tag Vault ≡ true → seen_value (value t (from_bytes v)) ≡ seen_value (value t (from_bytes w))
+argument_alike : (t : ValueType Label) (v w : List ℕ) → same_label t.tag Secret ≡ true → seen_value (value t (from_bytes v)) ≡ seen_value (value t (from_bytes w))
 argument_alike t v w e = ap (value t) (of t.tag (from_bytes v) (from_bytes w) e)
   where
-    of : (l : Label) (n m : ℕ) → fits_one l Vault ≡ true → seen_number l n ≡ seen_number l m
+    of : (l : Label) (n m : ℕ) → same_label l Secret ≡ true → seen_number l n ≡ seen_number l m
     of Public n m e = cc
     of Secret n m e = refl
 
-values_alike : (ts : List (ValueType Label)) (arguments : List Argument) (v w : List ℕ) → fits ts arguments ≡ true → seen_values (values ts arguments v) ≡ seen_values (values ts arguments w)
+values_alike : (ts : List (ValueType Label)) (arguments : List Arg) (v w : List ℕ) → fits ts arguments ≡ true → seen_values (values ts arguments v) ≡ seen_values (values ts arguments w)
 values_alike [] arguments v w e = refl
 values_alike (t ∷ ts) [] v w e = refl
-values_alike (t ∷ ts) (Number n ∷ arguments) v w e =
-    let h = both (fits_one t.tag (Number n)) (fits ts arguments) e in
-    ap (λ (vs : List Value). seen_value (value t n) ∷ vs) (values_alike ts arguments v w h.1)
+values_alike (t ∷ ts) (Number neg size ∷ arguments) v w e =
+    let h = both (fits_one t (Number neg size)) (fits ts arguments) e in
+    ap (λ (vs : List Value). seen_value (value t (number_of t.width neg size)) ∷ vs) (values_alike ts arguments v w h.1)
 values_alike (t ∷ ts) (Vault ∷ arguments) v w e =
-    let h = both (fits_one t.tag Vault) (fits ts arguments) e in
+    let h = both (fits_one t Vault) (fits ts arguments) e in
     ap₂ (λ (x : Value) (vs : List Value). x ∷ vs) (argument_alike t (take (byte_count t.width) v) (take (byte_count t.width) w) h.0)
     (values_alike ts arguments (drop (byte_count t.width) v) (drop (byte_count t.width) w) h.1)
 
@@ -62,7 +68,7 @@ answered_same : (reply : Reply) (s t : State) → Agree s t → SamePlayed (answ
 answered_same reply s t e = record { by = same_quiet (ap (λ (s : State). record { state = s; reply = reply; releases = [] }) e) }
 
 refused_same : (refusal : Refusal) (s t : State) → Agree s t → SamePlayed (refused refusal s) (refused refusal t)
-refused_same refusal s t e = answered_same (Rattle.ctwasm_top.specs.Session.Refused refusal) s t e
+refused_same refusal s t e = answered_same (reply.Refused refusal) s t e
 
 checked_same : (b c : Bool) (refusal : Refusal) (s t : State) (p q : Played) → b ≡ c → Agree s t → (b ≡ true → SamePlayed p q) → SamePlayed (checked b refusal s p) (checked c refusal t q)
 checked_same true true refusal s t p q e a h = h refl
@@ -143,7 +149,7 @@ turned_same x y s t h e = record {
 called_alike : (f : Callee) (vs ws : List Value) → seen_values vs ≡ seen_values ws → seen (called f vs) ≡ seen (called f ws)
 called_alike f vs ws e = ap (λ (vs : List Value). record { locals = vs; operands = []; code = f.code; result = f.type.result }) e
 
-begin_same : (f : Callee) (arguments : List Argument) (s t : State) → Agree s t → SamePlayed (begin f arguments s) (begin f arguments t)
+begin_same : (f : Callee) (arguments : List Arg) (s t : State) → Agree s t → SamePlayed (begin f arguments s) (begin f arguments t)
 begin_same f arguments s t e =
     let ts = f.type.params in
     let v = vault_length s t e in

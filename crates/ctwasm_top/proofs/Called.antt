@@ -6,7 +6,7 @@ use Rattle.ctw_ops.specs.Tree.{Module}
 use Rattle.ctw_ops.specs.declared.numeric.Profile.TheVariants.{Divide}
 use Rattle.ctw_modcheck.specs.Check.{fault_of}
 use Rattle.ctwasm_top.specs.declared.Status.{Status}
-use Rattle.ctwasm_top.specs.declared.words.Argument.{Argument}
+use Rattle.ctw_script.specs.declared.moves.Arg.{Arg}
 use Rattle.ctwasm_top.specs.OnceWords.{OnceWords}
 use Rattle.ctwasm_top.specs.Session.{Callee, opened, plays}
 use Rattle.ctwasm_top.specs.Checked.{StraightFunction, callee_of}
@@ -15,14 +15,14 @@ use Rattle.ctwasm_top.specs.Headline.{Did, DidTold}
 use Rattle.ctwasm_top.proofs.ModulesRead.{module_read_valid}
 
 -- the call of a function
-abbrev pub play : OnceWords → List Argument → List ℕ → Callee → Outcome
+abbrev pub play : OnceWords → List Arg → List ℕ → Callee → Outcome
 play w arguments vault f = finished w.sealed (plays f (opened vault) (once_moves arguments))
 
 -- the call that is made of a valid module
-abbrev pub made : OnceWords → List Argument → List ℕ → Module Label → Outcome
+abbrev pub made : OnceWords → List Arg → List ℕ → Module Label → Outcome
 made w arguments vault m = built w.module_file (callable w.export arguments m) (λ f. finished w.sealed (plays f (opened vault) (once_moves arguments)))
 
-module _ (w : OnceWords) (arguments : List Argument) (bytes vault : List ℕ) (status : Status) (files : Files) (after : Option Files) (taken took : Option (List ℕ)) where
+module _ (w : OnceWords) (arguments : List Arg) (bytes vault : List ℕ) (status : Status) (files : Files) (after : Option Files) (taken took : Option (List ℕ)) where
   -- the bytes are no valid module
   pub call_refused : (name : List ℕ) → after ≡ Some files → name ≡ w.module_file → Did status (read_valid Divide name bytes (made w arguments vault)) files files taken took → DidTold status (module_call w arguments bytes vault) files after taken took
   call_refused name told en d = record {

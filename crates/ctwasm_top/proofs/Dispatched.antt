@@ -1,12 +1,11 @@
 -- The answer of the program, word by word.
-use Rattle.std.proofs.Common.{◌≡◌, ℕ, List, Option, Some, None, sym, ap, ◌∙◌, subst, codes}
+use Rattle.std.proofs.Common.{◌≡◌, ℕ, List, Option, Some, None, sym, ap, subst, codes}
 use Rattle.ctw_io.specs.Files.{Files}
 use Rattle.ctwasm_top.specs.declared.Status.{Status}
 use Rattle.ctwasm_top.specs.declared.Status.TheVariants as Statuses
-use Rattle.ctwasm_top.specs.declared.words.Argument.{Argument}
 use Rattle.ctwasm_top.specs.OnceWords.{OnceWords}
-use Rattle.ctwasm_top.specs.Words.{Command, command_of, same_file, Arguments, Read, NoArgument, arguments_of}
-use Rattle.ctwasm_top.specs.Answer.{Outcome, refuses, unless_same, with_arguments, once_call, once_answer, on_words, answer}
+use Rattle.ctwasm_top.specs.Words.{Command, command_of, same_file}
+use Rattle.ctwasm_top.specs.Answer.{Outcome, refuses, unless_same, once_call, once_answer, on_words, answer}
 use Rattle.ctwasm_top.specs.Headline.{Did, DidTold}
 
 module _ (files : Files) (w : OnceWords) (status : Status) (taken took : Option (List ℕ)) where
@@ -15,23 +14,12 @@ module _ (files : Files) (w : OnceWords) (status : Status) (taken took : Option 
   same_words after word told f d = record {
     files = files;
     told = told;
-    did = subst (λ (a : Outcome). Did status a files files taken took) (sym (ap (λ (o : Option (List ℕ)). unless_same o (with_arguments (arguments_of w.arguments) (once_call files w))) f)) d;
+    did = subst (λ (a : Outcome). Did status a files files taken took) (sym (ap (λ (o : Option (List ℕ)). unless_same o (once_call files w w.arguments)) f)) d;
   }
 
-  -- a word that is no argument
-  pub bad_words : (after : Option Files) (word : List ℕ) → after ≡ Some files → same_file w ≡ None → arguments_of w.arguments ≡ NoArgument word → Did status (refuses (codes "NotBuilt") word) files files taken took → DidTold status (once_answer files w) files after taken took
-  bad_words after word told f a d = record {
-    files = files;
-    told = told;
-    did = subst (λ (a : Outcome). Did status a files files taken took)
-        (sym (ap (λ (o : Option (List ℕ)). unless_same o (with_arguments (arguments_of w.arguments) (once_call files w))) f ∙ ap (λ (r : Arguments). with_arguments r (once_call files w)) a)) d;
-  }
-
-  -- all words are read
-  pub good_words : (after : Option Files) (arguments : List Argument) → same_file w ≡ None → arguments_of w.arguments ≡ Read arguments → DidTold status (once_call files w arguments) files after taken took → DidTold status (once_answer files w) files after taken took
-  good_words after arguments f a d =
-      subst (λ (a : Outcome). DidTold status a files after taken took)
-      (sym (ap (λ (o : Option (List ℕ)). unless_same o (with_arguments (arguments_of w.arguments) (once_call files w))) f ∙ ap (λ (r : Arguments). with_arguments r (once_call files w)) a)) d
+  -- two files, and a third
+  pub other_words : (after : Option Files) → same_file w ≡ None → DidTold status (once_call files w w.arguments) files after taken took → DidTold status (once_answer files w) files after taken took
+  other_words after f d = subst (λ (a : Outcome). DidTold status a files after taken took) (sym (ap (λ (o : Option (List ℕ)). unless_same o (once_call files w w.arguments)) f)) d
 
 -- the words of a command
 pub on_command : (words : List (List ℕ)) (files : Files) (status : Status) (after : Option Files) (taken took : Option (List ℕ)) (o : Option Command) → command_of words ≡ o → DidTold status (on_words files o) files after taken took

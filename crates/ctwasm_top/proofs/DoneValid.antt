@@ -8,10 +8,10 @@ use Rattle.ctw_ops.specs.declared.numeric.Profile.{Profile}
 use Rattle.ctw_ops.specs.declared.numeric.Profile.TheVariants.{Divide, Multiply}
 use Rattle.ctw_ops.specs.Tree.{Module, under}
 use Rattle.ctw_ops.specs.Valid.{IsValid}
-use Rattle.ctw_module.specs.declared.fault.FormFault.{FormFault}
-use Rattle.ctw_module.specs.Spelled.{Spells}
-use Rattle.ctw_module.specs.Read.{module_at}
-use Rattle.ctw_module.proofs.FileForms.{module_sound, module_complete}
+use Rattle.ctw_form.specs.declared.fault.FormFault.{FormFault}
+use Rattle.ctw_form.specs.Spelled.{Spells}
+use Rattle.ctw_form.specs.Read.{module_at}
+use Rattle.ctw_form.proofs.FileForms.{module_sound, module_complete}
 use Rattle.ctw_write.specs.Canon.{canon}
 use Rattle.ctw_write.proofs.CanonicalText.{canonical_spelled}
 use Rattle.ctw_modcheck.specs.declared.fault.Invalid.{Invalid}
@@ -20,9 +20,8 @@ use Rattle.ctw_modcheck.proofs.Validity.{valid_is_none}
 use Rattle.ctwasm_top.proofs.Profiles.{under_ok, spelled_under, valid_under}
 use Rattle.ctwasm_top.proofs.ModulesRead.{module_read_valid}
 use Rattle.ctwasm_top.specs.declared.Status.TheVariants.{Done, Refused}
-use Rattle.ctwasm_top.specs.declared.words.Argument.{Argument}
-use Rattle.ctwasm_top.specs.Words.{OnceWords, Command, Once, command_of, same_file, Arguments, Read, NoArgument, arguments_of}
-use Rattle.ctwasm_top.specs.Answer.{Outcome, ends, on_file, module_limit, vault_limit, on_form, read, on_fault, module_under, read_valid, callable, built, with_arguments, unless_same, check_answer, canon_answer, once_call, on_words, answer}
+use Rattle.ctwasm_top.specs.Words.{OnceWords, Command, Once, command_of, same_file}
+use Rattle.ctwasm_top.specs.Answer.{Outcome, ends, on_file, module_limit, vault_limit, on_form, read, on_fault, module_under, read_valid, callable, built, unless_same, check_answer, canon_answer, once_call, on_words, answer}
 use Rattle.ctwasm_top.specs.ValidCalls.{CallsValid, HoldsValid, check_words, canon_words, GivesSpelling}
 
 test_done : (b : Bool) (p q : Outcome) → q.status ≡ Refused → (cond b p q).status ≡ Done → p.status ≡ Done
@@ -42,18 +41,13 @@ pub fault_done : (name : List ℕ) (o : Option Invalid) (go : Outcome) → (on_f
 fault_done name (Some fault) go e = cc
 fault_done name None go e = (refl, e)
 
-arguments_done : (r : Arguments) (go : List Argument → Outcome) → (with_arguments r go).status ≡ Done → (a : List Argument) × ((go a).status ≡ Done)
-arguments_done (NoArgument word) go e = cc
-arguments_done (Read arguments) go e = (arguments, e)
-
 unless_done : (o : Option (List ℕ)) (p : Outcome) → (unless_same o p).status ≡ Done → p.status ≡ Done
 unless_done None p e = e
 unless_done (Some word) p e = cc
 
-once_done : (words : List (List ℕ)) (files : Files) (w : OnceWords) → command_of words ≡ Some (Once w) → (unless_same (same_file w) (with_arguments (arguments_of w.arguments) (once_call files w))).status ≡ Done → CallsValid words files
+once_done : (words : List (List ℕ)) (files : Files) (w : OnceWords) → command_of words ≡ Some (Once w) → (unless_same (same_file w) (once_call files w w.arguments)).status ≡ Done → CallsValid words files
 once_done words files w r e =
-    let a = arguments_done (arguments_of w.arguments) (once_call files w) (unless_done (same_file w) _ e) in
-    let m = file_done w.module_file module_limit (get files w.module_file) _ a.1 in
+    let m = file_done w.module_file module_limit (get files w.module_file) _ (unless_done (same_file w) _ e) in
     let v = file_done w.vault vault_limit (get files w.vault) _ m.2 in
     let f = form_done w.module_file (module_under Divide m.0) _ v.2 in
     let c = fault_done w.module_file (fault_of f.0) _ f.2 in

@@ -3,7 +3,7 @@ use Rattle.std.proofs.Common.{◌≡◌, ◌≤◌, ℕ, Bool, true, List, lengt
 use Rattle.std.proofs.lemmas.Bool.Decides.{nat_tests}
 use Rattle.std.specs.FinMap.{get}
 use Rattle.ctw_io.specs.Files.{Files}
-use Rattle.ctwasm_top.specs.declared.words.Argument.{Argument}
+use Rattle.ctw_script.specs.declared.moves.Arg.{Arg}
 use Rattle.ctwasm_top.specs.declared.Status.{Status}
 use Rattle.ctwasm_top.specs.OnceWords.{OnceWords}
 use Rattle.ctwasm_top.specs.Answer.{Outcome, refuses, on_file, load, module_limit, vault_limit, module_call, once_call}
@@ -41,7 +41,7 @@ loaded status files after taken took name bytes limit go told l e h d = record {
   did = subst (λ (a : Outcome). Did status a files files taken took) (sym (there name module_limit (get files name) bytes go e (subst (λ (n : ℕ). length bytes ≤ n) l h))) d;
 }
 
-module _ (files : Files) (w : OnceWords) (arguments : List Argument) where
+module _ (files : Files) (w : OnceWords) (arguments : List Arg) where
   abbrev pub with_vault : List ℕ → List ℕ → Outcome
   with_vault bytes vault = module_call w arguments bytes vault
 
@@ -83,7 +83,7 @@ module _ (files : Files) (w : OnceWords) (arguments : List Argument) where
       subst (λ (a : Outcome). DidTold status a files after taken took) (sym (both_read bytes vault e h f k)) d
 
 -- the bytes that were read, as the call has them
-pub module_call_as : (w : OnceWords) (arguments : List Argument) (status : Status) (files : Files) (after : Option Files) (taken took : Option (List ℕ)) (lent bytes lent_vault vault : List ℕ) → lent ≡ bytes → lent_vault ≡ vault
+pub module_call_as : (w : OnceWords) (arguments : List Arg) (status : Status) (files : Files) (after : Option Files) (taken took : Option (List ℕ)) (lent bytes lent_vault vault : List ℕ) → lent ≡ bytes → lent_vault ≡ vault
     → DidTold status (module_call w arguments lent lent_vault) files after taken took → DidTold status (module_call w arguments bytes vault) files after taken took
 module_call_as w arguments status files after taken took lent bytes lent_vault vault e v d =
     subst (λ (b : List ℕ). DidTold status (module_call w arguments b vault) files after taken took) e (subst (λ (v : List ℕ). DidTold status (module_call w arguments lent v) files after taken took) v d)

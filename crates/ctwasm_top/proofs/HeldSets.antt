@@ -6,7 +6,7 @@ use Rattle.ctw_io.specs.Files.{Files}
 use Rattle.ctw_ops.specs.declared.types.Label.{Label}
 use Rattle.ctw_ops.specs.declared.numeric.Profile.{Profile}
 use Rattle.ctw_ops.specs.Tree.{Module}
-use Rattle.ctw_module.proofs.FileForms.{module_complete}
+use Rattle.ctw_form.proofs.FileForms.{module_complete}
 use Rattle.ctw_modcheck.specs.Check.{fault_of}
 use Rattle.ctw_modcheck.proofs.Validity.{valid_is_none}
 use Rattle.ctwasm_top.proofs.Profiles.{under_ok, spelled_under, valid_under}

@@ -4,8 +4,7 @@ pub mod Same
 pub mod AlikeMachine
 pub mod AlikeMoves
 pub mod AlikeAnswers
-pub mod Digits
-pub mod ArgumentsRead
+pub mod WordsRead
 pub mod Standing
 pub mod Running
 pub mod Begins

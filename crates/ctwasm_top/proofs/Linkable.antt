@@ -6,7 +6,7 @@ use Rattle.std.proofs.lemmas.List.Sums.{sum_by-cons}
 use Rattle.ctw_ops.specs.declared.types.Label.{Label}
 use Rattle.ctw_ops.specs.declared.types.ExternTag.TheVariants.{Func, Global}
 use Rattle.ctw_ops.specs.Tree.{Module}
-use Rattle.ctw_module.specs.Spelled.{Spells}
+use Rattle.ctw_form.specs.Spelled.{Spells}
 use Rattle.ctw_module.specs.Trees.{Lent, parts, tree, view_of, view_module}
 use Rattle.ctw_module.proofs.Known.{known, file_is, functions_length}
 use Rattle.ctw_ops.specs.declared.numeric.Profile.{Profile}
@@ -35,7 +35,7 @@ few_here lent m s =
 
 tree_is : (lent : Lent) (m : Module Label) → Spells lent.bytes m → tree lent ≡ m
 unfolding tree
-tree_is lent m s = ap Rattle.ctw_module.specs.Spelled.module_in (file_is lent.bytes m s) ∙ s.made
+tree_is lent m s = ap Rattle.ctw_form.specs.Spelled.module_in (file_is lent.bytes m s) ∙ s.made
 
 are_few : (bytes : List ℕ) (m : Module Label) → Spells bytes m → AreFew bytes m
 are_few bytes m s =

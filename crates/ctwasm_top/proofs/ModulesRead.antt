@@ -4,9 +4,9 @@ use Rattle.ctw_ops.specs.declared.types.Label.{Label}
 use Rattle.ctw_ops.specs.declared.numeric.Profile.{Profile}
 use Rattle.ctw_ops.specs.Tree.{Module}
 use Rattle.ctw_leb.specs.Reading.{chain}
-use Rattle.ctw_module.specs.declared.fault.FormFault.{FormFault}
-use Rattle.ctw_module.specs.Spelled.{File, module_in}
-use Rattle.ctw_module.specs.Read.{file_at, module_at}
+use Rattle.ctw_form.specs.declared.fault.FormFault.{FormFault}
+use Rattle.ctw_form.specs.Spelled.{File, module_in}
+use Rattle.ctw_form.specs.Read.{file_at, module_at}
 use Rattle.ctw_io.specs.Files.{Files}
 use Rattle.ctw_modcheck.specs.declared.fault.Invalid.{Invalid}
 use Rattle.ctw_modcheck.specs.Check.{fault_of}

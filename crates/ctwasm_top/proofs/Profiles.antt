@@ -1,15 +1,15 @@
 -- Modules that bytes spell, under a profile.
-use Rattle.std.proofs.Common.{◌≡◌, ℕ, List, None, Result, Ok, Err, refl, sym, ap, ◌∙◌, subst}
+use Rattle.std.proofs.Common.{◌≡◌, ℕ, List, None, Result, Ok, Err, refl, sym, ap, subst}
 use Rattle.ctw_ops.specs.declared.numeric.Profile.{Profile}
 use Rattle.ctw_ops.specs.declared.types.Label.{Label}
 use Rattle.ctw_ops.specs.Tree.{Module, under}
 use Rattle.ctw_ops.specs.Valid.{IsFormed, IsValid}
 use Rattle.ctw_ops.proofs.Profiles.{formed_under}
-use Rattle.ctw_module.specs.declared.fault.FormFault.{FormFault}
-use Rattle.ctw_module.specs.Spelled.{Spells}
-use Rattle.ctw_module.specs.Read.{module_at}
-use Rattle.ctw_module.proofs.FileForms.{module_sound}
-use Rattle.ctw_module.proofs.Fitted.{module_formed}
+use Rattle.ctw_form.specs.declared.fault.FormFault.{FormFault}
+use Rattle.ctw_form.specs.Spelled.{Spells}
+use Rattle.ctw_form.specs.Read.{module_at}
+use Rattle.ctw_form.proofs.FileForms.{module_sound}
+use Rattle.ctw_form.proofs.Fitted.{module_formed}
 use Rattle.ctw_modcheck.specs.Check.{fault_of}
 use Rattle.ctw_modcheck.proofs.Validity.{none_is_valid}
 use Rattle.ctwasm_top.specs.Answer.{module_under, with_profile}

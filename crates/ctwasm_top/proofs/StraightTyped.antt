@@ -10,7 +10,7 @@ use Rattle.ctw_ops.specs.Equal.{same_types}
 use Rattle.ctw_ops.specs.declared.numeric.NumSig.{NumSig}
 use Rattle.ctw_ops.specs.Numeric.{num_sig_of}
 use Rattle.ctw_ops.specs.Code.{Leaf, Drop, LocalGet, LocalSet, LocalTee, Const, Numeric, Classify, straight, Code, Stop, Then, Block, Loop, If, IfElse}
-use Rattle.ctw_ops.specs.Typing.{Context, optional, upon, Row, Typed, operands, Moves}
+use Rattle.ctw_ops.specs.Typing.{Context, optional, upon, Row, Typed, operands}
 use Rattle.ctw_ops.specs.Tree.{Module, Function, type_named}
 use Rattle.ctw_ops.specs.Bodies.{context_of, HasItsType}
 use Rattle.ctwasm_top.specs.Straight.{is_straight_operation, is_straight_leaf, straight_leaves}

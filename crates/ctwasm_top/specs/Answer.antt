@@ -7,8 +7,8 @@ use Rattle.ctw_ops.specs.declared.types.ExternTag.TheVariants.{Func}
 use Rattle.ctw_ops.specs.declared.numeric.Profile.{Profile}
 use Rattle.ctw_ops.specs.declared.numeric.Profile.TheVariants.{Divide}
 use Rattle.ctw_ops.specs.Tree.{Module, under}
-use Rattle.ctw_module.specs.declared.fault.FormFault.{FormFault}
-use Rattle.ctw_module.specs.Read.{module_at}
+use Rattle.ctw_form.specs.declared.fault.FormFault.{FormFault}
+use Rattle.ctw_form.specs.Read.{module_at}
 use Rattle.ctw_module.specs.Lookup.{export_in}
 use Rattle.ctw_write.specs.Canon.{canon}
 use Rattle.ctw_modcheck.specs.declared.fault.Invalid.{Invalid}
@@ -20,10 +20,10 @@ use Rattle.ctw_io.specs.Files.{Files}
 use Rattle.ctwasm_top.specs.declared.Status.{Status}
 use Rattle.ctwasm_top.specs.declared.Status.TheVariants.{Done, Refused, Usage}
 use Rattle.ctwasm_top.specs.Session.{Callee, Move, Begin, Turn, opened, Run, plays, most_steps, fits}
-use Rattle.ctwasm_top.specs.declared.words.Argument.{Argument}
+use Rattle.ctw_script.specs.declared.moves.Arg.{Arg}
 use Rattle.ctwasm_top.specs.Lines.{reply_lines, refusal_line, read_line, check_line, link_line, linked_line}
 use Rattle.ctwasm_top.specs.Usage.{usage_text}
-use Rattle.ctwasm_top.specs.Words.{OnceWords, NamedFile, Command, Check, Canon, Link, Once, command_of, same_file, Arguments, Read, NoArgument, arguments_of}
+use Rattle.ctwasm_top.specs.Words.{OnceWords, NamedFile, Command, Check, Canon, Link, Once, command_of, same_file}
 use Rattle.ctwasm_top.specs.Straight.{straight_of}
 use Rattle.ctwasm_top.specs.Checked.{StraightFunction, callee_of}
 
@@ -90,7 +90,8 @@ read_valid profile name bytes go = on_form name (module_under profile bytes) (λ
 -- ---- the commands `check` and `canon`
 
 abbrev pub check_answer : Files → Profile → List ℕ → Outcome
-check_answer files profile name = load files name module_limit (λ bytes. read_valid profile name bytes (λ m. ends Done (codes "ok\n")))
+check_answer files profile name =
+    load files name module_limit (λ bytes. read_valid profile name bytes (λ m. ends Done (codes "ok\n")))
 
 abbrev pub canon_answer : Files → List ℕ → Outcome
 canon_answer files name = load files name module_limit (λ bytes. read name bytes (λ m. ends Done (canon m)))
@@ -108,12 +109,14 @@ at_most limit left = if nat_le limit left then limit else left
 abbrev pub load_modules : Files → ℕ → List NamedFile → (List (List ℕ) → Outcome) → Outcome
 load_modules files left [] go = go []
 load_modules files left (part ∷ parts) go =
-    load files part.file (at_most module_limit left) (λ bytes. load_modules files (left - length bytes) parts (λ others. go (bytes ∷ others)))
+    load files part.file (at_most module_limit left)
+    (λ bytes. load_modules files (left - length bytes) parts (λ others. go (bytes ∷ others)))
 
 -- the modules of parts in order, each read and checked before the next
 abbrev pub read_parts : Profile → List NamedFile → List (List ℕ) → (ModuleSet → Outcome) → Outcome
 read_parts profile (part ∷ parts) (bytes ∷ others) go =
-    read_valid profile part.file bytes (λ m. read_parts profile parts others (λ set. go (record { name = part.name; tree = m } ∷ set)))
+    read_valid profile part.file bytes
+    (λ m. read_parts profile parts others (λ set. go (record { name = part.name; tree = m } ∷ set)))
 read_parts profile parts others go = go []
 
 abbrev pub on_set : ModuleSet → Option LinkFault → Outcome → Outcome
@@ -125,7 +128,9 @@ abbrev pub match : ModuleSet → Outcome → Outcome
 match set go = on_set set (set_fault set) go
 
 abbrev pub link_answer : Files → Profile → List NamedFile → Outcome
-link_answer files profile parts = load_modules files modules_limit parts (λ contents. read_parts profile parts contents (λ set. match set (ends Done (linked_line (length set)))))
+link_answer files profile parts =
+    load_modules files modules_limit parts
+    (λ contents. read_parts profile parts contents (λ set. match set (ends Done (linked_line (length set)))))
 
 -- ---- the call that the words ask for
 
@@ -134,15 +139,16 @@ is_function (Some (Func, index)) = true
 is_function _ = false
 
 -- whether a function is exported under the name, and the arguments fit
-abbrev pub is_callable : Module Label → List ℕ → List Argument → StraightFunction → Bool
+abbrev pub is_callable : Module Label → List ℕ → List Arg → StraightFunction → Bool
 is_callable m export arguments f = is_function (export_in export m.exports) && fits f.params arguments
 
-abbrev pub callable_in : Module Label → List ℕ → List Argument → Option StraightFunction → Option Callee
+abbrev pub callable_in : Module Label → List ℕ → List Arg → Option StraightFunction → Option Callee
 callable_in m export arguments None = None
 callable_in m export arguments (Some f) = if is_callable m export arguments f then Some (callee_of f) else None
 
--- the function that is called; None where the module isn't straight, exports no function under the name, or the arguments don't fit
-abbrev pub callable : List ℕ → List Argument → Module Label → Option Callee
+-- the function that is called; None where the module isn't straight, exports no function under the name,
+-- or the arguments don't fit
+abbrev pub callable : List ℕ → List Arg → Module Label → Option Callee
 callable export arguments m = callable_in m export arguments (straight_of m)
 
 abbrev pub built : List ℕ → Option Callee → (Callee → Outcome) → Outcome
@@ -151,7 +157,7 @@ built name (Some f) go = go f
 
 -- ---- the command `once`
 
-abbrev pub once_moves : List Argument → List Move
+abbrev pub once_moves : List Arg → List Move
 once_moves arguments = Begin arguments ∷ Turn most_steps ∷ []
 
 -- a text, with bytes that are saved under a name
@@ -159,28 +165,27 @@ abbrev pub delivered : List ℕ → List ℕ → List ℕ → Outcome
 delivered name text sealed = record { out = text; saved = Some (name, sealed); status = Done; releases = [] }
 
 abbrev pub finished : List ℕ → Run → Outcome
-finished sealed r = record { out = reply_lines r.told; saved = Some (sealed, r.state.sealed); status = Done; releases = r.releases }
-
-abbrev pub with_arguments : Arguments → (List Argument → Outcome) → Outcome
-with_arguments (NoArgument word) go = refuses (codes "NotBuilt") word
-with_arguments (Read arguments) go = go arguments
+finished sealed r =
+    record { out = reply_lines r.told; saved = Some (sealed, r.state.sealed); status = Done; releases = r.releases }
 
 abbrev pub unless_same : Option (List ℕ) → Outcome → Outcome
 unless_same (Some word) go = refuses (codes "SameFile") word
 unless_same None go = go
 
 -- over the module's bytes and the vault's
-abbrev pub module_call : OnceWords → List Argument → List ℕ → List ℕ → Outcome
+abbrev pub module_call : OnceWords → List Arg → List ℕ → List ℕ → Outcome
 module_call w arguments bytes vault =
     read_valid Divide w.module_file bytes (λ m.
     built w.module_file (callable w.export arguments m) (λ f.
     finished w.sealed (plays f (opened vault) (once_moves arguments))))
 
-abbrev pub once_call : Files → OnceWords → List Argument → Outcome
-once_call files w arguments = load files w.module_file module_limit (λ bytes. load files w.vault vault_limit (λ vault. module_call w arguments bytes vault))
+abbrev pub once_call : Files → OnceWords → List Arg → Outcome
+once_call files w arguments =
+    load files w.module_file module_limit
+    (λ bytes. load files w.vault vault_limit (λ vault. module_call w arguments bytes vault))
 
 abbrev pub once_answer : Files → OnceWords → Outcome
-once_answer files w = unless_same (same_file w) (with_arguments (arguments_of w.arguments) (once_call files w))
+once_answer files w = unless_same (same_file w) (once_call files w w.arguments)
 
 abbrev pub command_answer : Files → Command → Outcome
 command_answer files (Check profile file) = check_answer files profile file

@@ -11,7 +11,8 @@ use Rattle.ctwasm_top.specs.Session.{Callee, called, most_steps}
 use Rattle.ctwasm_top.specs.Valid.{Stack, pass_all, ends_with}
 
 abbrev pub callee : Stack → Option (ValueType Label) → List (Leaf Label) → Callee
-callee params result leaves = record { type = record { trust = Untrusted; params = params; result = result }; code = straight leaves }
+callee params result leaves =
+    record { type = record { trust = Untrusted; params = params; result = result }; code = straight leaves }
 
 -- a type of 32 bits
 abbrev pub IsNarrow : ValueType Label → Type 0
@@ -33,5 +34,6 @@ pub record IsChecked (params : Stack) (result : Option (ValueType Label)) (leave
 
 -- a call with arguments of these numbers ends after so many steps with this result
 pub record RunsTo (f : Callee) (numbers : List ℕ) (steps : ℕ) (result : Option Value) : Type 0 where
-  pub ends : (vs : List Value) → map (λ (v : Value). v.type) vs ≡ f.type.params → map (λ (v : Value). v.number) vs ≡ numbers
+  pub ends : (vs : List Value) → map (λ (v : Value). v.type) vs ≡ f.type.params
+      → map (λ (v : Value). v.number) vs ≡ numbers
       → turn most_steps (called f vs) ≡ record { left = Finished result; steps = steps; releases = [] }

@@ -23,11 +23,14 @@ abbrev pub Did : Status → Outcome → Files → Files → Option (List ℕ) �
 Did ReadFault a before after taken took = (after ≡ before) × (took ≡ taken)
 Did WriteFault a before after taken took = (after ≡ before) × TookPrefix taken took a.out
 Did NoMemory a before after taken took = (after ≡ before) × TookPrefix taken took a.out
-Did SaveFault a before after taken took = IsHalfDone before a.saved after × (took ≡ grown taken a.out) × (a.status ≡ Done)
-Did status a before after taken took = (status ≡ a.status) × (after ≡ with_save before a.saved) × (took ≡ grown taken a.out)
+Did SaveFault a before after taken took =
+    IsHalfDone before a.saved after × (took ≡ grown taken a.out) × (a.status ≡ Done)
+Did status a before after taken took =
+    (status ≡ a.status) × (after ≡ with_save before a.saved) × (took ≡ grown taken a.out)
 
 -- the shelf still tells its files, and this was done
-pub record DidTold (status : Status) (a : Outcome) (before : Files) (after : Option Files) (taken took : Option (List ℕ)) : Type 0 where
+pub record DidTold (status : Status) (a : Outcome) (before : Files) (after : Option Files)
+    (taken took : Option (List ℕ)) : Type 0 where
   pub files : Files
   pub told : after ≡ Some files
   pub did : Did status a before files taken took
@@ -35,7 +38,8 @@ pub record DidTold (status : Status) (a : Outcome) (before : Files) (after : Opt
 -- other files, which differ in the bytes of VAULT alone, of which there are as many
 pub record OtherVault (vault : List ℕ) (f g : Files) : Type 0 where
   pub others : (name : List ℕ) → bytes_eq name vault ≡ false → get f name ≡ get g name
-  pub long : option_map (λ (bytes : List ℕ). length bytes) (get f vault) ≡ option_map (λ (bytes : List ℕ). length bytes) (get g vault)
+  pub long : option_map (λ (bytes : List ℕ). length bytes) (get f vault)
+      ≡ option_map (λ (bytes : List ℕ). length bytes) (get g vault)
 
 -- how many bytes are saved, and where
 abbrev pub saved_size : Option (List ℕ × List ℕ) → Option (List ℕ × ℕ)

@@ -6,7 +6,6 @@ pub mod OnceWords
 pub mod NamedFiles
 pub mod Words
 pub mod Commands
-pub mod Arguments
 pub mod Valid
 pub mod WordSteps
 pub mod Checked

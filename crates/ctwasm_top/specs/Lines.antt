@@ -19,47 +19,17 @@ use Rattle.ctw_ops.specs.declared.fault.Space.{Space}
 use Rattle.ctw_ops.specs.declared.fault.Space.TheVariants as space
 use Rattle.ctw_ops.specs.declared.fault.SecretRule.{SecretRule}
 use Rattle.ctw_ops.specs.declared.fault.SecretRule.TheVariants as rule
-use Rattle.ctw_module.specs.declared.fault.FormKind.{FormKind}
-use Rattle.ctw_module.specs.declared.fault.FormKind.TheVariants as form
-use Rattle.ctw_module.specs.declared.fault.FormFault.{FormFault}
+use Rattle.ctw_form.specs.declared.fault.FormKind.{FormKind}
+use Rattle.ctw_form.specs.declared.fault.FormKind.TheVariants as form
+use Rattle.ctw_form.specs.declared.fault.FormFault.{FormFault}
 use Rattle.ctw_valid.specs.declared.fault.BodyFault.{BodyFault}
 use Rattle.ctw_valid.specs.declared.fault.BodyFault.TheVariants as body
 use Rattle.ctw_modcheck.specs.declared.fault.Invalid.{Invalid}
 use Rattle.ctw_modcheck.specs.declared.fault.Invalid.TheVariants as invalid
-use Rattle.ctwasm_top.specs.Session.{Shown, Nothing, Plain, Hidden, Refusal, BadArgs, SlotBusy, SlotFree, VaultShort, TurnTooLong, Reply, Began, More, Done, Halts, Refused}
+use Rattle.ctw_script.specs.declared.reply.Reply.{Reply}
+use Rattle.ctw_script.specs.Lines.{spaced, reply_line}
 
--- words with blanks between them, and a line feed
-abbrev pub spaced : List (List ℕ) → List ℕ
-spaced [] = 10 ∷ []
-spaced (word ∷ []) = word ++ 10 ∷ []
-spaced (word ∷ words) = word ++ 32 ∷ spaced words
-
-abbrev pub width_word : Width → List ℕ
-width_word W32 = codes "i32"
-width_word W64 = codes "i64"
-
-abbrev pub shown_words : Shown → List (List ℕ)
-shown_words Nothing = []
-shown_words (Plain width number) = width_word width ∷ decimal number ∷ []
-shown_words Hidden = codes "secret" ∷ []
-
-abbrev pub refusal_word : Refusal → List ℕ
-refusal_word BadArgs = codes "BadArgs"
-refusal_word SlotBusy = codes "SlotBusy"
-refusal_word SlotFree = codes "SlotFree"
-refusal_word VaultShort = codes "VaultShort"
-refusal_word TurnTooLong = codes "TurnTooLong"
-
-abbrev pub reply_words : Reply → List (List ℕ)
-reply_words Began = codes "began" ∷ []
-reply_words (More steps) = codes "more" ∷ decimal steps ∷ []
-reply_words (Done steps result) = codes "done" ∷ decimal steps ∷ shown_words result
-reply_words (Halts steps) = codes "halt" ∷ decimal steps ∷ []
-reply_words (Refused refusal) = codes "refused" ∷ refusal_word refusal ∷ []
-
-abbrev pub reply_line : Reply → List ℕ
-reply_line reply = spaced (reply_words reply)
-
+-- the lines of replies
 abbrev pub reply_lines : List Reply → List ℕ
 reply_lines [] = []
 reply_lines (reply ∷ replies) = reply_line reply ++ reply_lines replies
@@ -67,12 +37,6 @@ reply_lines (reply ∷ replies) = reply_line reply ++ reply_lines replies
 -- a refusal of the command: its kind, and the word that it is about
 abbrev pub refusal_line : List ℕ → List ℕ → List ℕ
 refusal_line kind word = spaced (codes "refused" ∷ kind ∷ word ∷ [])
-
--- a result behind the steps, with a blank before each word
-abbrev pub shown_text : Shown → List ℕ
-shown_text Nothing = []
-shown_text (Plain width number) = 32 ∷ (width_word width ++ 32 ∷ decimal number)
-shown_text Hidden = 32 ∷ codes "secret"
 
 -- ---- refusals of modules
 
@@ -106,14 +70,11 @@ abbrev pub excess_words : FormKind → List (List ℕ)
 excess_words (form.TooMany kind limit) = what_word kind ∷ decimal limit ∷ []
 excess_words _ = []
 
--- words behind others, each behind a blank
-abbrev pub words_text : List (List ℕ) → List ℕ
-words_text [] = []
-words_text (word ∷ words) = 32 ∷ word ++ words_text words
-
 -- a file that spells no module
 abbrev pub read_line : List ℕ → FormFault → List ℕ
-read_line word fault = spaced (codes "refused" ∷ codes "read" ∷ word ∷ form_word fault.kind ∷ decimal fault.place ∷ excess_words fault.kind)
+read_line word fault =
+    spaced
+    (codes "refused" ∷ codes "read" ∷ word ∷ form_word fault.kind ∷ decimal fault.place ∷ excess_words fault.kind)
 
 abbrev pub space_word : Space → List ℕ
 space_word space.Types = codes "type"
@@ -187,7 +148,8 @@ trust_text Trusted = codes "trusted "
 
 -- such as `trusted (i32 s32)->(i32)`
 abbrev pub function_text : FunctionType Label → List ℕ
-function_text f = trust_text f.trust ++ codes "(" ++ value_words f.params ++ codes ")->(" ++ result_words f.result ++ codes ")"
+function_text f =
+    trust_text f.trust ++ codes "(" ++ value_words f.params ++ codes ")->(" ++ result_words f.result ++ codes ")"
 
 abbrev pub size_word : Option ℕ → List ℕ
 size_word None = codes "-"
@@ -221,7 +183,8 @@ part_name set part = name_or_empty (slice_get set part)
 -- parts by their names, but that of DoubleName by its index; want of memory is no fault of a set, and has no words
 abbrev pub link_words : ModuleSet → LinkFault → List (List ℕ)
 link_words set (link.NoImport part import) = codes "NoImport" ∷ part_name set part ∷ decimal import ∷ []
-link_words set (link.ImportType part import want got) = codes "ImportType" ∷ part_name set part ∷ decimal import ∷ external_text want ∷ external_text got ∷ []
+link_words set (link.ImportType part import want got) =
+    codes "ImportType" ∷ part_name set part ∷ decimal import ∷ external_text want ∷ external_text got ∷ []
 link_words set (link.TableMix table a b) = codes "TableMix" ∷ decimal table ∷ function_text a ∷ function_text b ∷ []
 link_words set (link.TooManyPages pages) = codes "TooManyPages" ∷ decimal pages ∷ []
 link_words set (link.TooManyEntries entries) = codes "TooManyEntries" ∷ decimal entries ∷ []

@@ -1,9 +1,8 @@
 -- The machine on code without blocks: values, one activation, reductions, steps and turns
 -- (W3C WebAssembly Core 1.0, sections 4.2 and 4.4, with the labels, classify and declassify of the CT-Wasm paper).
-use Rattle.std.specs.Prelude.{ℕ, zero, suc, ◌+◌, ◌-◌, ◌%◌, Bool, true, false, ◌&&◌, List, [], ◌∷◌, ◌++◌, Option, Some, None, option_to_list, if◌then◌else◌, ◌==◌, slice_get, slice_set, bit_and, bit_or, bit_xor}
+use Rattle.std.specs.Prelude.{ℕ, zero, suc, ◌+◌, ◌-◌, ◌%◌, Bool, true, false, List, [], ◌∷◌, ◌++◌, Option, Some, None, option_to_list, if◌then◌else◌, ◌==◌, slice_get, slice_set, bit_and, bit_or, bit_xor}
 use Rattle.ctw_ops.specs.declared.types.Label.{Label}
 use Rattle.ctw_ops.specs.declared.types.Label.TheVariants.{Public, Secret}
-use Rattle.ctw_ops.specs.declared.types.Width.{Width}
 use Rattle.ctw_ops.specs.declared.types.Width.TheVariants.{W32}
 use Rattle.ctw_ops.specs.Types.{ValueType, value_type}
 use Rattle.ctw_ops.specs.Equal.{same_type}
@@ -17,14 +16,16 @@ pub record Value : Type 0 where
 abbrev pub value : ValueType Label → ℕ → Value
 value type number = record { type = type; number = number }
 
--- a running call: its locals, its operands, the last one first, the instructions still to run, and the type of its result
+-- a running call: its locals, its operands, the last one first, the instructions still to run,
+-- and the type of its result
 pub record Activation : Type 0 where
   pub locals : List Value
   pub operands : List Value
   pub code : Code Label
   pub result : Option (ValueType Label)
 
--- what a reduction leads to; Stuck where a value is missing or has another type than the instruction wants, or where an index names nothing
+-- what a reduction leads to; Stuck where a value is missing or has another type than the instruction wants,
+-- or where an index names nothing
 pub data Answer : Type 0 where
   Goes : (next : Activation) → Answer
   Ended : (value : Option Value) → Answer
@@ -79,15 +80,21 @@ leaf Nop locals operands go = quiet (go locals operands)
 leaf Drop locals operands go = pop_any operands (λ _ below. quiet (go locals below))
 leaf (LocalGet x) locals operands go = given (slice_get locals x) (λ v. quiet (go locals (v ∷ operands)))
 leaf (LocalSet x) locals operands go =
-    given (slice_get locals x) (λ old. pop old.type operands (λ n below. quiet (go (slice_set locals x (value old.type n)) below)))
+    given (slice_get locals x)
+    (λ old. pop old.type operands (λ n below. quiet (go (slice_set locals x (value old.type n)) below)))
 leaf (LocalTee x) locals operands go =
-    given (slice_get locals x) (λ old. pop old.type operands (λ n below. quiet (go (slice_set locals x (value old.type n)) (value old.type n ∷ below))))
+    given (slice_get locals x)
+    (λ old.
+    pop old.type operands
+    (λ n below. quiet (go (slice_set locals x (value old.type n)) (value old.type n ∷ below))))
 leaf (Const w l bits) locals operands go = quiet (go locals (value (value_type w l) bits ∷ operands))
 leaf (Numeric op l) locals operands go =
     pop (value_type W32 l) operands (λ b below. pop (value_type W32 l) below (λ a rest.
     given (arithmetic op a b) (λ n. quiet (go locals (value (value_type W32 l) n ∷ rest)))))
-leaf (Classify w) locals operands go = pop (value_type w Public) operands (λ n below. quiet (go locals (value (value_type w Secret) n ∷ below)))
-leaf (Declassify w) locals operands go = pop (value_type w Secret) operands (λ n below. releasing n (go locals (value (value_type w Public) n ∷ below)))
+leaf (Classify w) locals operands go =
+    pop (value_type w Public) operands (λ n below. quiet (go locals (value (value_type w Secret) n ∷ below)))
+leaf (Declassify w) locals operands go =
+    pop (value_type w Secret) operands (λ n below. releasing n (go locals (value (value_type w Public) n ∷ below)))
 leaf _ locals operands go = quiet Stuck
 
 -- the function's end gives back its result

@@ -26,7 +26,9 @@ bytes_in parts = sum_by (λ p. length p.bytes.items) parts
 -- each file is there and within the limits; of the limit on all files so many bytes are left
 abbrev pub AreThere : Files → ℕ → List LoadedPart → Type 0
 AreThere files left [] = Unit {0}
-AreThere files left (p ∷ parts) = (get files p.part.file.now ≡ Some p.bytes.items) × (length p.bytes.items ≤ at_most module_limit left) × AreThere files (left - length p.bytes.items) parts
+AreThere files left (p ∷ parts) =
+    (get files p.part.file.now ≡ Some p.bytes.items) × (length p.bytes.items ≤ at_most module_limit left)
+    × AreThere files (left - length p.bytes.items) parts
 
 -- the first of parts whose file isn't loaded
 pub record StopsLoading (files : Files) (parts : List PartFile) (stop : Unloaded) : Type 0 where
@@ -36,7 +38,8 @@ pub record StopsLoading (files : Files) (parts : List PartFile) (stop : Unloaded
   pub split : parts ≡ map (λ p. p.part) before ++ part ∷ behind
   pub there : AreThere files modules_limit before
   pub named : stop.file.now ≡ part.file.now
-  pub unloaded : IsUnloaded stop.fault (at_most module_limit (modules_limit - bytes_in before)) (get files part.file.now)
+  pub unloaded : IsUnloaded stop.fault (at_most module_limit (modules_limit - bytes_in before))
+      (get files part.file.now)
 
 -- the files of parts, or the first that isn't loaded
 abbrev pub ArePartsLoaded : {A : Type 0} → Result (Vec LoadedPart A) Unloaded → Files → List PartFile → Type 0
@@ -46,14 +49,16 @@ ArePartsLoaded (Err stop) files parts = StopsLoading files parts stop
 -- the module of a part, under its name, or why there is none
 abbrev pub IsPartRead : Profile → Result Part ModuleFault → LoadedPart → Type 0
 IsPartRead profile (Ok m) p =
-    (m.name ≡ p.part.name.now) × (module_under profile p.bytes.items ≡ Ok (view_module m.«module»)) × (fault_of (view_module m.«module») ≡ None)
+    (m.name ≡ p.part.name.now) × (module_under profile p.bytes.items ≡ Ok (view_module m.«module»))
+    × (fault_of (view_module m.«module») ≡ None)
 IsPartRead profile (Err fault) p = IsRefused profile fault p.bytes.items
 
 -- these are the modules of parts, and valid
 abbrev pub AreRead : Profile → ModuleSet → List LoadedPart → Type 0
 AreRead profile [] [] = Unit {0}
 AreRead profile (m ∷ set) (p ∷ parts) =
-    (m.name ≡ p.part.name.now) × (module_under profile p.bytes.items ≡ Ok m.tree) × (fault_of m.tree ≡ None) × AreRead profile set parts
+    (m.name ≡ p.part.name.now) × (module_under profile p.bytes.items ≡ Ok m.tree) × (fault_of m.tree ≡ None)
+    × AreRead profile set parts
 AreRead profile set parts = ⊥
 
 -- the first of parts whose bytes spell no valid module
@@ -73,4 +78,6 @@ AreNamed set parts = map (λ m. m.name) set ≡ map (λ p. p.part.name.now) part
 
 -- the answer over the loaded parts
 abbrev pub loaded_answer : Profile → List LoadedPart → Outcome
-loaded_answer profile parts = read_parts profile (map (λ p. part_named p.part) parts) (map (λ p. p.bytes.items) parts) (λ set. match set (ends Done (linked_line (length set))))
+loaded_answer profile parts =
+    read_parts profile (map (λ p. part_named p.part) parts) (map (λ p. p.bytes.items) parts)
+    (λ set. match set (ends Done (linked_line (length set))))

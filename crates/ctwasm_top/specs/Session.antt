@@ -1,13 +1,22 @@
 -- A session with one slot: calls of one function over a vault, and what they seal.
-use Rattle.std.specs.Prelude.{ℕ, zero, suc, ◌+◌, ◌*◌, ◌/◌, ◌%◌, Bool, true, false, ◌&&◌, List, [], ◌∷◌, ◌++◌, length, take, drop, Option, Some, None, nat_le}
+use Rattle.std.specs.Prelude.{ℕ, zero, suc, ◌+◌, ◌-◌, ◌*◌, ◌/◌, ◌%◌, ◌^◌, Bool, true, false, ◌&&◌, List, [], ◌∷◌, ◌++◌, length, take, drop, Option, Some, None, nat_le, nat_lt}
 use Rattle.ctw_ops.specs.declared.types.Label.{Label}
 use Rattle.ctw_ops.specs.declared.types.Label.TheVariants.{Public, Secret}
 use Rattle.ctw_ops.specs.declared.types.Width.{Width}
 use Rattle.ctw_ops.specs.declared.types.Width.TheVariants.{W32, W64}
 use Rattle.ctw_ops.specs.Types.{ValueType, FunctionType}
+use Rattle.ctw_ops.specs.Equal.{same_label}
 use Rattle.ctw_ops.specs.Code.{Code}
-use Rattle.ctwasm_top.specs.declared.words.Argument.{Argument}
-use Rattle.ctwasm_top.specs.declared.words.Argument.TheVariants.{Number, Vault}
+use Rattle.ctw_script.specs.declared.reply.Shown.{Shown}
+use Rattle.ctw_script.specs.declared.reply.Shown.TheVariants.{Nothing}
+use Rattle.ctw_script.specs.declared.reply.Refusal.{Refusal}
+use Rattle.ctw_script.specs.declared.reply.Refusal.TheVariants.{BadArgs, SlotBusy, SlotFree, VaultShort, TurnTooLong}
+use Rattle.ctw_script.specs.declared.reply.Reply.{Reply}
+use Rattle.ctw_script.specs.declared.reply.Reply.TheVariants.{Began, More, Done, Trap, Refused}
+use Rattle.ctw_script.specs.declared.trap.TrapCode.TheVariants.{Unreachable}
+use Rattle.ctw_script.specs.Lines.{shown_number}
+use Rattle.ctw_script.specs.declared.moves.Arg.{Arg}
+use Rattle.ctw_script.specs.declared.moves.Arg.TheVariants.{Number, Vault}
 use Rattle.ctwasm_top.specs.Machine.{Value, value, Activation, Left, Running, Finished, Halted, Turned, turn}
 
 -- the function that is called: its type and its instructions
@@ -16,23 +25,8 @@ pub record Callee : Type 0 where
   pub code : Code Label
 
 pub data Move : Type 0 where
-  Begin : (arguments : List Argument) → Move
+  Begin : (arguments : List Arg) → Move
   Turn : (steps : ℕ) → Move
-
-pub data Shown : Type 0 where
-  Nothing : Shown
-  Plain : (width : Width) (number : ℕ) → Shown
-  Hidden : Shown
-
-pub data Refusal : Type 0 where
-  BadArgs SlotBusy SlotFree VaultShort TurnTooLong : Refusal
-
-pub data Reply : Type 0 where
-  Began : Reply
-  More : (steps : ℕ) → Reply
-  Done : (steps : ℕ) (result : Shown) → Reply
-  Halts : (steps : ℕ) → Reply
-  Refused : (refusal : Refusal) → Reply
 
 -- the call that runs in the slot, what is left of the vault, and what was sealed
 pub record State : Type 0 where
@@ -72,34 +66,49 @@ to_bytes (suc count) n = n % 256 ∷ to_bytes count (n / 256)
 
 -- ---- begin
 
--- a number may stand for a secret parameter, and the vault doesn't for a public one
-abbrev pub fits_one : Label → Argument → Bool
-fits_one Public Vault = false
-fits_one _ _ = true
+abbrev pub bit_count : Width → ℕ
+bit_count W32 = 32
+bit_count W64 = 64
+
+-- whether a number is from -2^(w-1) to 2^w - 1, for a width of w bits
+abbrev pub is_in_range : Width → Bool → ℕ → Bool
+is_in_range w true size = nat_le size (2 ^ (bit_count w - 1))
+is_in_range w false size = nat_lt size (2 ^ bit_count w)
+
+-- a number modulo 2^w
+abbrev pub number_of : Width → Bool → ℕ → ℕ
+number_of w true size = (2 ^ bit_count w - size % 2 ^ bit_count w) % 2 ^ bit_count w
+number_of w false size = size % 2 ^ bit_count w
+
+-- a number in the parameter's range, or the next bytes of the vault for a secret parameter
+abbrev pub fits_one : ValueType Label → Arg → Bool
+fits_one t (Number neg size) = is_in_range t.width neg size
+fits_one t Vault = same_label t.tag Secret
 
 -- as many arguments as parameters, each of which fits
-abbrev pub fits : List (ValueType Label) → List Argument → Bool
+abbrev pub fits : List (ValueType Label) → List Arg → Bool
 fits [] [] = true
-fits (t ∷ ts) (a ∷ arguments) = fits_one t.tag a && fits ts arguments
+fits (t ∷ ts) (a ∷ arguments) = fits_one t a && fits ts arguments
 fits _ _ = false
 
 -- how many bytes of the vault the arguments take
-abbrev pub needed : List (ValueType Label) → List Argument → ℕ
+abbrev pub needed : List (ValueType Label) → List Arg → ℕ
 needed (t ∷ ts) (Vault ∷ arguments) = byte_count t.width + needed ts arguments
-needed (t ∷ ts) (Number n ∷ arguments) = needed ts arguments
+needed (t ∷ ts) (Number neg size ∷ arguments) = needed ts arguments
 needed _ _ = 0
 
 -- the values of the arguments; each takes its bytes from the front of the vault
-abbrev pub values : List (ValueType Label) → List Argument → List ℕ → List Value
+abbrev pub values : List (ValueType Label) → List Arg → List ℕ → List Value
 values (t ∷ ts) (Vault ∷ arguments) vault =
     value t (from_bytes (take (byte_count t.width) vault)) ∷ values ts arguments (drop (byte_count t.width) vault)
-values (t ∷ ts) (Number n ∷ arguments) vault = value t n ∷ values ts arguments vault
+values (t ∷ ts) (Number neg size ∷ arguments) vault =
+    value t (number_of t.width neg size) ∷ values ts arguments vault
 values _ _ vault = []
 
 abbrev pub called : Callee → List Value → Activation
 called f arguments = record { locals = arguments; operands = []; code = f.code; result = f.type.result }
 
-abbrev pub with_call : Callee → List Argument → State → State
+abbrev pub with_call : Callee → List Arg → State → State
 with_call f arguments s = record {
   slot = Some (called f (values f.type.params arguments s.vault));
   vault = drop (needed f.type.params arguments) s.vault;
@@ -115,7 +124,7 @@ abbrev pub checked : Bool → Refusal → State → Played → Played
 checked true refusal s go = go
 checked false refusal s go = refused refusal s
 
-abbrev pub begin : Callee → List Argument → State → Played
+abbrev pub begin : Callee → List Arg → State → Played
 begin f arguments s =
     checked (fits f.type.params arguments) BadArgs s
     (free_slot s.slot
@@ -132,11 +141,7 @@ most_steps = 1000000
 -- a public result is shown, and a secret one's bytes are sealed
 abbrev pub shown : Option Value → Shown
 shown None = Nothing
-shown (Some v) = of v.type.tag v.type.width v.number
-  where
-    of : Label → Width → ℕ → Shown
-    of Public width number = Plain width number
-    of Secret width number = Hidden
+shown (Some v) = shown_number v.type.tag v.type.width v.number
 
 abbrev pub sealed_by : Option Value → List ℕ
 sealed_by None = []
@@ -146,10 +151,11 @@ sealed_by (Some v) = of v.type.tag v.type.width v.number
     of Public width number = []
     of Secret width number = to_bytes (byte_count width) number
 
+-- a call of typed code never halts
 abbrev pub turn_reply : ℕ → Left → Reply
 turn_reply steps (Running call) = More steps
 turn_reply steps (Finished result) = Done steps (shown result)
-turn_reply steps Halted = Halts steps
+turn_reply steps Halted = Trap steps Unreachable
 
 abbrev pub turn_sealed : Left → List ℕ
 turn_sealed (Finished result) = sealed_by result

@@ -66,7 +66,8 @@ is_straight_type f = is_untrusted f.trust && list_all (λ t. is_narrow t.width) 
 -- a CT module without import, table, memory, global, start and segment
 abbrev pub has_functions_alone : Module Label → Bool
 has_functions_alone m =
-    m.ct && has_none m.imports && not (is_some m.table) && not (is_some m.memory) && has_none m.globals && not (is_some m.start) && has_none m.elements && has_none m.segments
+    m.ct && has_none m.imports && not (is_some m.table) && not (is_some m.memory) && has_none m.globals
+    && not (is_some m.start) && has_none m.elements && has_none m.segments
 
 -- instructions that aren't too many
 abbrev pub few : Option (List (Leaf Label)) → Option (List (Leaf Label))
@@ -78,7 +79,9 @@ straight_function type leaves = record { params = type.params; result = type.res
 
 -- one function without declared locals
 abbrev pub straight_among : Module Label → List (Function Label) → Option StraightFunction
-straight_among m (f ∷ []) = if has_none f.locals && is_straight_type (type_named m f.type) then option_map (straight_function (type_named m f.type)) (few (straight_leaves f.body)) else None
+straight_among m (f ∷ []) =
+    if has_none f.locals && is_straight_type (type_named m f.type)
+    then option_map (straight_function (type_named m f.type)) (few (straight_leaves f.body)) else None
 straight_among m _ = None
 
 -- the one function of a straight module; None where a valid module isn't straight

@@ -7,7 +7,7 @@ use Rattle.ctw_ops.specs.declared.numeric.Profile.{Profile}
 use Rattle.ctw_ops.specs.declared.numeric.Profile.TheVariants.{Divide, Multiply}
 use Rattle.ctw_ops.specs.Tree.{Module, under}
 use Rattle.ctw_ops.specs.Valid.{IsValid}
-use Rattle.ctw_module.specs.Spelled.{Spells}
+use Rattle.ctw_form.specs.Spelled.{Spells}
 use Rattle.ctw_link.specs.Sets.{ModuleSet}
 use Rattle.ctw_link.specs.Matching.{AreMatching}
 use Rattle.ctwasm_top.specs.Words.{OnceWords, NamedFile, Once, command_of}
@@ -53,13 +53,15 @@ pub record GivesSpelling (files : Files) (name : List ℕ) : Type 0 where
 
 -- ---- `link`
 
--- Each part's file is there and within the limits, and its bytes spell a module that is valid under the profile. Of the limit on
--- all files so many bytes are left.
+-- Each part's file is there and within the limits, and its bytes spell a module that is valid under the profile. Of the
+-- limit on all files so many bytes are left.
 abbrev pub HoldParts : Files → Profile → ℕ → List NamedFile → ModuleSet → Type 0
 HoldParts files profile left [] [] = Unit {0}
 HoldParts files profile left (part ∷ parts) (p ∷ set) =
-    (p.name ≡ part.name) × (bytes : List ℕ) × (get files part.file ≡ Some bytes) × (length bytes ≤ module_limit) × (length bytes ≤ left)
-    × (tree : Module Label) × Spells bytes tree × (p.tree ≡ under profile tree) × IsValid p.tree × HoldParts files profile (left - length bytes) parts set
+    (p.name ≡ part.name) × (bytes : List ℕ) × (get files part.file ≡ Some bytes) × (length bytes ≤ module_limit)
+    × (length bytes ≤ left)
+    × (tree : Module Label) × Spells bytes tree × (p.tree ≡ under profile tree) × IsValid p.tree
+    × HoldParts files profile (left - length bytes) parts set
 HoldParts files profile left parts set = ⊥
 
 -- the files hold modules that are valid under the profile and match

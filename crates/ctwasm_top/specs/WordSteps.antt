@@ -20,16 +20,22 @@ CanStep Classify locals operands = Unit {0}
 -- the last two operands give way to what the operation makes of them
 abbrev pub IsBinary : ℕ → List ℕ → List ℕ → Type 0
 IsBinary op operands operands' =
-    (a b n : ℕ) × (below : List ℕ) × (operands ≡ (below ++ a ∷ []) ++ b ∷ []) × (arithmetic op a b ≡ Some n) × (operands' ≡ below ++ n ∷ [])
+    (a b n : ℕ) × (below : List ℕ) × (operands ≡ (below ++ a ∷ []) ++ b ∷ []) × (arithmetic op a b ≡ Some n)
+    × (operands' ≡ below ++ n ∷ [])
 
 -- the locals and operands, before and after
 abbrev pub WordStep : StraightInstr → List ℕ → List ℕ → List ℕ → List ℕ → Type 0
 WordStep Drop locals operands locals' operands' = (n : ℕ) × (operands ≡ operands' ++ n ∷ []) × (locals' ≡ locals)
-WordStep (LocalGet index) locals operands locals' operands' = (n : ℕ) × (slice_get locals index ≡ Some n) × (operands' ≡ operands ++ n ∷ []) × (locals' ≡ locals)
-WordStep (LocalSet index) locals operands locals' operands' = (n : ℕ) × (operands ≡ operands' ++ n ∷ []) × (locals' ≡ slice_set locals index n)
-WordStep (LocalTee index) locals operands locals' operands' = (n : ℕ) × (below : List ℕ) × (operands ≡ below ++ n ∷ []) × (operands' ≡ operands) × (locals' ≡ slice_set locals index n)
+WordStep (LocalGet index) locals operands locals' operands' =
+    (n : ℕ) × (slice_get locals index ≡ Some n) × (operands' ≡ operands ++ n ∷ []) × (locals' ≡ locals)
+WordStep (LocalSet index) locals operands locals' operands' =
+    (n : ℕ) × (operands ≡ operands' ++ n ∷ []) × (locals' ≡ slice_set locals index n)
+WordStep (LocalTee index) locals operands locals' operands' =
+    (n : ℕ) × (below : List ℕ) × (operands ≡ below ++ n ∷ []) × (operands' ≡ operands)
+    × (locals' ≡ slice_set locals index n)
 WordStep (Const label bits) locals operands locals' operands' = (operands' ≡ operands ++ bits ∷ []) × (locals' ≡ locals)
-WordStep (Binary op label) locals operands locals' operands' = IsBinary (opcode_of op) operands operands' × (locals' ≡ locals)
+WordStep (Binary op label) locals operands locals' operands' =
+    IsBinary (opcode_of op) operands operands' × (locals' ≡ locals)
 WordStep Classify locals operands locals' operands' = (operands' ≡ operands) × (locals' ≡ locals)
 
 -- how many steps an instruction counts for

@@ -11,9 +11,9 @@ ghost use Rattle.ctwasm_top.specs.Answer.{is_function, callable};
 
 use crate::function::{Function, function_of};
 use crate::straight::straight_code;
-use crate::words::Argument;
 use ctw_module::Module;
 use ctw_ops::{ExternTag, FuncType, Trust, ValType, Width};
+use ctw_script::Arg;
 use std::alloc::{AllocError, Global};
 
 /// Whether it is a CT module with functions, types, exports and custom sections alone.
@@ -98,17 +98,19 @@ fn exports_function(module: &Module, export: &str) -> bool
     matches!(module.export_named(export), Some((ExternTag::Func, _)))
 }
 
-/// The function that the words call for; None where the module isn't straight, exports no function under the name, or the
-/// arguments don't fit.
+/// The function that the words call for; None where the module isn't straight, exports no function under the name, or
+/// the arguments don't fit.
 pub fn callable(
     alloc: Global,
     module: &Module,
     export: &str,
-    arguments: &[Argument],
+    arguments: &[Arg],
 ) -> Result<Option<Function>, AllocError>
     requires { IsValid (view_module module.now) }
-    ensures decides { IfOk result (λ function. option_map callee_of function ≡ callable export.now arguments.now (view_module module.now)) }
-    ensures ready { IfOk result (λ function. IfSome function (λ f. All IsNarrow f.params × (fits f.params arguments.now ≡ true))) }
+    ensures decides { IfOk result (λ function.
+        option_map callee_of function ≡ callable export.now arguments.now (view_module module.now)) }
+    ensures ready { IfOk result (λ function.
+        IfSome function (λ f. All IsNarrow f.params × (fits f.params arguments.now ≡ true))) }
 {
     let Some(function) = straight(alloc, module)? else {
         return Ok(None);

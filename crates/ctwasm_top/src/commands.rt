@@ -22,8 +22,11 @@ pub fn check_file<F: Shelf, K: Sink>(
     shelf: &mut F,
     out: &mut K,
 ) -> Status
-    ensures did { (files : Files) → F.files shelf.old ≡ Some files → DidTold result (check_answer files profile name.now) files (F.files shelf.new) (K.taken out.old) (K.taken out.new) }
-    ensures read { result ≡ ReadFault → Rose (F.faults shelf.old) (F.faults shelf.new) × (K.taken out.new ≡ K.taken out.old) }
+    ensures did { (files : Files) → F.files shelf.old ≡ Some files
+        → DidTold result (check_answer files profile name.now) files (F.files shelf.new) (K.taken out.old)
+        (K.taken out.new) }
+    ensures read { result ≡ ReadFault
+        → Rose (F.faults shelf.old) (F.faults shelf.new) × (K.taken out.new ≡ K.taken out.old) }
     ensures write { result ≡ WriteFault → Rose (K.faults out.old) (K.faults out.new) }
     ensures known { (result ≡ SaveFault → ⊥) × (result ≡ Usage → ⊥) }
 {
@@ -44,8 +47,10 @@ pub fn canon_file<F: Shelf, K: Sink>(
     shelf: &mut F,
     out: &mut K,
 ) -> Status
-    ensures did { (files : Files) → F.files shelf.old ≡ Some files → DidTold result (canon_answer files name.now) files (F.files shelf.new) (K.taken out.old) (K.taken out.new) }
-    ensures read { result ≡ ReadFault → Rose (F.faults shelf.old) (F.faults shelf.new) × (K.taken out.new ≡ K.taken out.old) }
+    ensures did { (files : Files) → F.files shelf.old ≡ Some files
+        → DidTold result (canon_answer files name.now) files (F.files shelf.new) (K.taken out.old) (K.taken out.new) }
+    ensures read { result ≡ ReadFault
+        → Rose (F.faults shelf.old) (F.faults shelf.new) × (K.taken out.new ≡ K.taken out.old) }
     ensures write { result ≡ WriteFault → Rose (K.faults out.old) (K.faults out.new) }
     ensures known { (result ≡ SaveFault → ⊥) × (result ≡ Usage → ⊥) }
 {

@@ -5,12 +5,12 @@ ghost use Rattle.ctw_ops.specs.Typing.{optional};
 ghost use Rattle.ctwasm_top.specs.StraightInstrs.{leaf_of};
 ghost use Rattle.ctwasm_top.specs.Straight.{straight_function};
 ghost use Rattle.ctwasm_top.specs.Valid.{pass_all, ends_with};
-ghost use Rattle.ctwasm_top.specs.Session.{fits_one, fits};
+ghost use Rattle.ctwasm_top.specs.Session.{is_in_range, fits_one, fits};
 
 use crate::machine::{Ran, run};
 use crate::straight::StraightInstr;
-use crate::words::Argument;
 use ctw_ops::{FuncType, Label, ValType, Width};
+use ctw_script::Arg;
 use std::alloc::{AllocError, Global};
 use std::marker::Model;
 
@@ -82,33 +82,49 @@ impl Function {
         run(alloc, &self.code, self.result, arguments)
     }
 
-    /// Whether these arguments fit the parameters: as many, and none from the vault for a public one.
-    pub fn takes(&self, arguments: &[Argument]) -> bool
+    /// Whether these arguments fit the parameters: as many, numbers in their ranges, and none from the vault for a
+    /// public one.
+    pub fn takes(&self, arguments: &[Arg]) -> bool
         ensures { result ≡ fits self.now.params arguments.now }
     {
         fits(&self.params, arguments)
     }
 }
 
-/// Whether an argument fits a parameter of this label.
-fn fits_one(label: Label, argument: Argument) -> bool
-    ensures { result ≡ fits_one label argument }
+/// Whether a number is from -2^(w-1) to 2^w - 1, for a width of w bits.
+fn is_in_range(width: Width, neg: bool, size: u64) -> bool
+    ensures { result ≡ is_in_range width neg size }
 {
-    match (label, argument) {
-        (Label::Public, Argument::Vault) => false,
-        _ => true,
+    match (width, neg) {
+        (Width::W32, true) => size <= 1 << 31,
+        (Width::W32, false) => size < 1 << 32,
+        (Width::W64, true) => size <= 1 << 63,
+        (Width::W64, false) => true,
+    }
+}
+
+/// Whether an argument fits a parameter of this type.
+fn fits_one(ty: ValType, argument: Arg) -> bool
+    ensures { result ≡ fits_one ty argument }
+{
+    match argument {
+        Arg::Number { neg, size } => is_in_range(ty.width, neg, size),
+        Arg::Vault => match ty.label {
+            Label::Public => false,
+            Label::Secret => true,
+        },
     }
 }
 
 /// Whether arguments fit parameters.
-fn fits(params: &[ValType], arguments: &[Argument]) -> bool
+fn fits(params: &[ValType], arguments: &[Arg]) -> bool
     ensures { result ≡ fits params.now arguments.now }
 {
     if params.len() != arguments.len() {
         return false;
     }
     for (index, ty) in params.iter().enumerate() {
-        if !fits_one(ty.label, arguments[index]) {
+        if !fits_one(*ty, arguments[index]) {
             return false;
         }
     }
@@ -121,7 +137,8 @@ pub fn function_of(
     func_type: &FuncType,
     code: Vec<StraightInstr>,
 ) -> Result<Function, AllocError>
-    requires typed { ends_with (optional func_type.now.result) (pass_all func_type.now.params (map leaf_of code.items) []) ≡ true }
+    requires typed { ends_with (optional func_type.now.result)
+        (pass_all func_type.now.params (map leaf_of code.items) []) ≡ true }
     requires few { length code.items ≤ 1000 }
     ensures { IfOk result (λ function. function ≡ straight_function func_type.now (map leaf_of code.items)) }
 {

@@ -78,10 +78,13 @@ fn dispatch<F: Shelf, K: Sink>(
     out: &mut K,
 ) -> Status
     ensures did { (files : Files) → F.files shelf.old ≡ Some files
-        → DidTold result (answer (map string_bytes words.now) files) files (F.files shelf.new) (K.taken out.old) (K.taken out.new) }
+        → DidTold result (answer (map string_bytes words.now) files) files (F.files shelf.new) (K.taken out.old)
+        (K.taken out.new) }
     ensures usage { result ≡ Usage → command_of (map string_bytes words.now) ≡ None }
-    ensures no_form { (files : Files) → command_of (map string_bytes words.now) ≡ None → Did result (ends Usage usage_text) files files (K.taken out.old) (K.taken out.new) }
-    ensures read { result ≡ ReadFault → Rose (F.faults shelf.old) (F.faults shelf.new) × (K.taken out.new ≡ K.taken out.old) }
+    ensures no_form { (files : Files) → command_of (map string_bytes words.now) ≡ None
+        → Did result (ends Usage usage_text) files files (K.taken out.old) (K.taken out.new) }
+    ensures read { result ≡ ReadFault
+        → Rose (F.faults shelf.old) (F.faults shelf.new) × (K.taken out.new ≡ K.taken out.old) }
     ensures write { result ≡ WriteFault → Rose (K.faults out.old) (K.faults out.new) }
     ensures save { result ≡ SaveFault → Rose (F.faults shelf.old) (F.faults shelf.new) }
 {
@@ -96,10 +99,10 @@ fn dispatch<F: Shelf, K: Sink>(
 
 /// Does what the words after the program's name say, over these files and this place for text.
 ///
-/// For now it has the commands `check M`, `canon M`, `link NAME=M..`, and `once M VAULT SEALED EXPORT ARG..` over straight
-/// modules. Before `check` and `link` the word `mul` may stand, under which multiplications leak as divisions do. All other
-/// words are a wrong use, whose text is written. Every text is written before a file is saved, and files are saved in the
-/// last place.
+/// For now it has the commands `check M`, `canon M`, `link NAME=M..`, and `once M VAULT SEALED EXPORT ARG..` over
+/// straight modules. Before `check` and `link` the word `mul` may stand, under which multiplications leak as divisions
+/// do. All other words are a wrong use, whose text is written. Every text is written before a file is saved, and files
+/// are saved in the last place.
 pub fn ctwasm<F: Shelf, K: Sink>(
     alloc: Global,
     words: &[String],
@@ -108,40 +111,49 @@ pub fn ctwasm<F: Shelf, K: Sink>(
 ) -> Status
     // What was written and saved and the status are those of the answer, or a fault says how far it came.
     ensures did { (files : Files) → F.files shelf.old ≡ Some files
-        → DidTold result (answer (map string_bytes words.now) files) files (F.files shelf.new) (K.taken out.old) (K.taken out.new) }
+        → DidTold result (answer (map string_bytes words.now) files) files (F.files shelf.new) (K.taken out.old)
+        (K.taken out.new) }
 
-    // `check` ends well only for a file whose bytes spell a module that is valid under the words' profile, and refuses no such
-    // file.
+    // `check` ends well only for a file whose bytes spell a module that is valid under the words' profile, and refuses
+    // no such file.
     ensures checked { (files : Files) (profile : Profile) (name : List ℕ) → F.files shelf.old ≡ Some files
         → map string_bytes words.now ≡ check_words profile name → result ≡ Done → HoldsValid files profile name }
     ensures passed { (files : Files) (profile : Profile) (name : List ℕ) → F.files shelf.old ≡ Some files
         → map string_bytes words.now ≡ check_words profile name → HoldsValid files profile name → result ≡ Refused → ⊥ }
 
     // `canon` writes bytes that spell the file's module.
-    ensures spelled { (files : Files) (name : List ℕ) → F.files shelf.old ≡ Some files → map string_bytes words.now ≡ canon_words name → result ≡ Done → GivesSpelling files name }
+    ensures spelled { (files : Files) (name : List ℕ) → F.files shelf.old ≡ Some files
+        → map string_bytes words.now ≡ canon_words name → result ≡ Done → GivesSpelling files name }
 
-    // `link` ends well only for files that hold modules that are valid under the words' profile and match, and refuses no such
-    // files.
+    // `link` ends well only for files that hold modules that are valid under the words' profile and match, and refuses
+    // no such files.
     ensures linked { (files : Files) (profile : Profile) (parts : List NamedFile) → F.files shelf.old ≡ Some files
-        → command_of (map string_bytes words.now) ≡ Some (Link profile parts) → result ≡ Done → HoldsSet files profile parts }
+        → command_of (map string_bytes words.now) ≡ Some (Link profile parts) → result ≡ Done
+        → HoldsSet files profile parts }
     ensures matched { (files : Files) (profile : Profile) (parts : List NamedFile) → F.files shelf.old ≡ Some files
-        → command_of (map string_bytes words.now) ≡ Some (Link profile parts) → HoldsSet files profile parts → result ≡ Refused → ⊥ }
+        → command_of (map string_bytes words.now) ≡ Some (Link profile parts) → HoldsSet files profile parts
+        → result ≡ Refused → ⊥ }
 
     // A call is made only of a module that is valid.
-    ensures valid { (files : Files) (w : OnceWords) → F.files shelf.old ≡ Some files → command_of (map string_bytes words.now) ≡ Some (Once w) → result ≡ Done → CallsValid (map string_bytes words.now) files }
+    ensures valid { (files : Files) (w : OnceWords) → F.files shelf.old ≡ Some files
+        → command_of (map string_bytes words.now) ≡ Some (Once w) → result ≡ Done
+        → CallsValid (map string_bytes words.now) files }
 
-    // The two vaults: other bytes in VAULT, as many, by which the same is released, give the same bytes for out, the same
-    // status and as many bytes to save.
-    ensures hidden { (files others : Files) (vault : List ℕ) → F.files shelf.old ≡ Some files → vault_word (map string_bytes words.now) ≡ Some vault → OtherVault vault files others
+    // The two vaults: other bytes in VAULT, as many, by which the same is released, give the same bytes for out, the
+    // same status and as many bytes to save.
+    ensures hidden { (files others : Files) (vault : List ℕ) → F.files shelf.old ≡ Some files
+        → vault_word (map string_bytes words.now) ≡ Some vault → OtherVault vault files others
         → releases (map string_bytes words.now) others ≡ releases (map string_bytes words.now) files
         → SameOutcome (answer (map string_bytes words.now) others) (answer (map string_bytes words.now) files) }
 
     // Told or not: wrong words are a wrong use, and nothing else is.
     ensures usage { result ≡ Usage → command_of (map string_bytes words.now) ≡ None }
-    ensures no_form { (files : Files) → command_of (map string_bytes words.now) ≡ None → Did result (ends Usage usage_text) files files (K.taken out.old) (K.taken out.new) }
+    ensures no_form { (files : Files) → command_of (map string_bytes words.now) ≡ None
+        → Did result (ends Usage usage_text) files files (K.taken out.old) (K.taken out.new) }
 
     // Told or not: each fault has its cause.
-    ensures read { result ≡ ReadFault → Rose (F.faults shelf.old) (F.faults shelf.new) × (K.taken out.new ≡ K.taken out.old) }
+    ensures read { result ≡ ReadFault
+        → Rose (F.faults shelf.old) (F.faults shelf.new) × (K.taken out.new ≡ K.taken out.old) }
     ensures write { result ≡ WriteFault → Rose (K.faults out.old) (K.faults out.new) }
     ensures save { result ≡ SaveFault → Rose (F.faults shelf.old) (F.faults shelf.new) }
 {

@@ -1,25 +1,15 @@
 // The lines that the program writes.
 ghost use Rattle.std.specs.Prelude.{◌≡◌, ◌++◌, ◌∷◌, [], ℕ, List, OnOk, IfOk, codes, decimal};
-ghost use Rattle.ctwasm_top.specs.Session.{shown as shown_of, Done};
-ghost use Rattle.ctwasm_top.specs.Lines.{width_word, shown_text, reply_line, refusal_line, words_text, what_word, form_word, excess_words, read_line, space_word, rule_word, body_words, invalid_words, check_line};
+ghost use Rattle.ctw_script.specs.Lines.{blank_before_each, reply_line};
+ghost use Rattle.ctwasm_top.specs.Lines.{refusal_line, what_word, form_word, excess_words, read_line, space_word, rule_word, body_words, invalid_words, check_line};
 
-use crate::machine::TypedNumber;
+use ctw_form::{FormFault, FormKind};
 use ctw_modcheck::Invalid;
-use ctw_module::{FormFault, FormKind};
-use ctw_ops::{Label, SecretRule, Space, What, Width};
+use ctw_ops::{SecretRule, Space, What};
+use ctw_script::{Reply, reply_text};
 use ctw_valid::BodyFault;
 use itoa::Buffer;
 use std::alloc::{AllocError, Global};
-
-/// The name of the public type of a width.
-fn width_word(width: Width) -> &'static [u8]
-    ensures { result.now ≡ width_word width }
-{
-    match width {
-        Width::W32 => b"i32",
-        Width::W64 => b"i64",
-    }
-}
 
 /// Adds decimal digits.
 pub fn add_number(line: &mut Vec<u8>, number: u32) -> Result<(), AllocError>
@@ -29,34 +19,12 @@ pub fn add_number(line: &mut Vec<u8>, number: u32) -> Result<(), AllocError>
     line.extend_from_slice(buffer.format(number).as_bytes())
 }
 
-/// Adds what is shown of a result: a secret one's number isn't.
-fn add_shown(line: &mut Vec<u8>, shown: Option<TypedNumber>) -> Result<(), AllocError>
-    ensures { OnOk result (line.new.items ≡ line.old.items ++ shown_text (shown_of shown)) }
+/// The line of a reply.
+pub fn reply_line(alloc: Global, reply: &Reply) -> Result<Vec<u8>, AllocError>
+    ensures { IfOk result (λ line. line.items ≡ reply_line reply.now) }
 {
-    let Some(value) = shown else {
-        return Ok(());
-    };
-    if value.ty.label == Label::Secret {
-        return line.extend_from_slice(b" secret");
-    }
-    line.push(b' ')?;
-    line.extend_from_slice(width_word(value.ty.width))?;
-    line.push(b' ')?;
-    add_number(line, value.number)
-}
-
-/// The line of a call that ended after so many steps.
-pub fn done_line(
-    alloc: Global,
-    steps: u32,
-    outcome: Option<TypedNumber>,
-) -> Result<Vec<u8>, AllocError>
-    ensures { IfOk result (λ line. line.items ≡ reply_line (Done steps (shown_of outcome))) }
-{
-    let mut line = Vec::from_slice(alloc, b"done ")?;
-    add_number(&mut line, steps)?;
-    add_shown(&mut line, outcome)?;
-    line.push(b'\n')?;
+    let mut line = Vec::new(alloc);
+    reply_text(reply, &mut line)?;
     Ok(line)
 }
 
@@ -74,7 +42,7 @@ pub fn refusal_line(alloc: Global, kind: &str, word: &str) -> Result<Vec<u8>, Al
 
 /// Adds a word behind a blank.
 pub fn add_word(line: &mut Vec<u8>, word: &[u8]) -> Result<(), AllocError>
-    ensures { OnOk result (line.new.items ≡ line.old.items ++ words_text (word.now ∷ [])) }
+    ensures { OnOk result (line.new.items ≡ line.old.items ++ blank_before_each (word.now ∷ [])) }
 {
     line.push(b' ')?;
     line.extend_from_slice(word)
@@ -82,7 +50,7 @@ pub fn add_word(line: &mut Vec<u8>, word: &[u8]) -> Result<(), AllocError>
 
 /// Adds decimal digits behind a blank.
 pub fn add_number_word(line: &mut Vec<u8>, number: u32) -> Result<(), AllocError>
-    ensures { OnOk result (line.new.items ≡ line.old.items ++ words_text (decimal number ∷ [])) }
+    ensures { OnOk result (line.new.items ≡ line.old.items ++ blank_before_each (decimal number ∷ [])) }
 {
     line.push(b' ')?;
     add_number(line, number)
@@ -125,7 +93,7 @@ fn form_word(kind: FormKind) -> &'static [u8]
 
 /// Adds what there is too much of, and the limit.
 fn add_excess(line: &mut Vec<u8>, kind: FormKind) -> Result<(), AllocError>
-    ensures { OnOk result (line.new.items ≡ line.old.items ++ words_text (excess_words kind)) }
+    ensures { OnOk result (line.new.items ≡ line.old.items ++ blank_before_each (excess_words kind)) }
 {
     let FormKind::TooMany { what, limit } = kind else {
         return Ok(());
@@ -179,7 +147,7 @@ fn rule_word(rule: SecretRule) -> &'static [u8]
 
 /// Adds where an opcode stands and a word.
 fn add_at(line: &mut Vec<u8>, at: u32, word: &[u8]) -> Result<(), AllocError>
-    ensures { OnOk result (line.new.items ≡ line.old.items ++ words_text (decimal at ∷ word.now ∷ [])) }
+    ensures { OnOk result (line.new.items ≡ line.old.items ++ blank_before_each (decimal at ∷ word.now ∷ [])) }
 {
     add_number_word(line, at)?;
     add_word(line, word)
@@ -187,7 +155,7 @@ fn add_at(line: &mut Vec<u8>, at: u32, word: &[u8]) -> Result<(), AllocError>
 
 /// Adds where a body's fault stands and what it is.
 fn add_body(line: &mut Vec<u8>, fault: BodyFault) -> Result<(), AllocError>
-    ensures { OnOk result (line.new.items ≡ line.old.items ++ words_text (body_words fault)) }
+    ensures { OnOk result (line.new.items ≡ line.old.items ++ blank_before_each (body_words fault)) }
 {
     match fault {
         BodyFault::Index { at } => add_at(line, at, b"Index"),
@@ -205,7 +173,8 @@ fn add_body(line: &mut Vec<u8>, fault: BodyFault) -> Result<(), AllocError>
 
 /// Adds a kind, and the item that it is about.
 fn add_item(line: &mut Vec<u8>, kind: &[u8], space: Space, index: u32) -> Result<(), AllocError>
-    ensures { OnOk result (line.new.items ≡ line.old.items ++ words_text (kind.now ∷ space_word space ∷ decimal index ∷ [])) }
+    ensures { OnOk result (line.new.items
+        ≡ line.old.items ++ blank_before_each (kind.now ∷ space_word space ∷ decimal index ∷ [])) }
 {
     add_word(line, kind)?;
     add_word(line, space_word(space))?;
@@ -214,7 +183,8 @@ fn add_item(line: &mut Vec<u8>, kind: &[u8], space: Space, index: u32) -> Result
 
 /// Adds a body's fault with its function.
 fn add_function(line: &mut Vec<u8>, f: u32, fault: BodyFault) -> Result<(), AllocError>
-    ensures { OnOk result (line.new.items ≡ line.old.items ++ words_text (codes "Body" ∷ decimal f ∷ codes "at" ∷ body_words fault)) }
+    ensures { OnOk result (line.new.items
+        ≡ line.old.items ++ blank_before_each (codes "Body" ∷ decimal f ∷ codes "at" ∷ body_words fault)) }
 {
     add_word(line, b"Body")?;
     add_number_word(line, f)?;
@@ -224,7 +194,7 @@ fn add_function(line: &mut Vec<u8>, f: u32, fault: BodyFault) -> Result<(), Allo
 
 /// Adds a kind and a number.
 pub fn add_numbered(line: &mut Vec<u8>, kind: &[u8], number: u32) -> Result<(), AllocError>
-    ensures { OnOk result (line.new.items ≡ line.old.items ++ words_text (kind.now ∷ decimal number ∷ [])) }
+    ensures { OnOk result (line.new.items ≡ line.old.items ++ blank_before_each (kind.now ∷ decimal number ∷ [])) }
 {
     add_word(line, kind)?;
     add_number_word(line, number)
@@ -232,7 +202,7 @@ pub fn add_numbered(line: &mut Vec<u8>, kind: &[u8], number: u32) -> Result<(), 
 
 /// Adds what is wrong with a module.
 fn add_invalid(line: &mut Vec<u8>, fault: Invalid) -> Result<(), AllocError>
-    ensures { OnOk result (line.new.items ≡ line.old.items ++ words_text (invalid_words fault)) }
+    ensures { OnOk result (line.new.items ≡ line.old.items ++ blank_before_each (invalid_words fault)) }
 {
     match fault {
         Invalid::Body { f, fault } => add_function(line, f, fault),

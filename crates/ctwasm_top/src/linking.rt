@@ -29,7 +29,8 @@ fn refuse_fault<K: Sink>(
     fault: &LinkFault,
     parts: &[LoadedPart],
 ) -> Status
-    ensures did { (files : Files) (set : ModuleSet) (go : Outcome) → AreNamed set parts.now → set_fault set ≡ Some fault.now
+    ensures did { (files : Files) (set : ModuleSet) (go : Outcome) → AreNamed set parts.now
+        → set_fault set ≡ Some fault.now
         → Did result (on_set set (set_fault set) go) files files (K.taken out.old) (K.taken out.new) }
     ensures write { result ≡ WriteFault → Rose (K.faults out.old) (K.faults out.new) }
     ensures quiet { (result ≡ ReadFault → ⊥) × (result ≡ SaveFault → ⊥) × (result ≡ Usage → ⊥) }
@@ -47,7 +48,8 @@ fn refuse_set<K: Sink>(
     fault: &LinkFault,
     parts: &[LoadedPart],
 ) -> Status
-    ensures did { (files : Files) (set : ModuleSet) (go : Outcome) → AreNamed set parts.now → (fault.now ≢ NoMemory → set_fault set ≡ Some fault.now)
+    ensures did { (files : Files) (set : ModuleSet) (go : Outcome) → AreNamed set parts.now
+        → (fault.now ≢ NoMemory → set_fault set ≡ Some fault.now)
         → Did result (on_set set (set_fault set) go) files files (K.taken out.old) (K.taken out.new) }
     ensures write { result ≡ WriteFault → Rose (K.faults out.old) (K.faults out.new) }
     ensures quiet { (result ≡ ReadFault → ⊥) × (result ≡ SaveFault → ⊥) × (result ≡ Usage → ⊥) }
@@ -60,7 +62,8 @@ fn refuse_set<K: Sink>(
 
 /// Answers for so many parts that match.
 fn say_linked<K: Sink>(alloc: Global, out: &mut K, parts: usize) -> Status
-    ensures did { (files : Files) → Did result (ends Done (linked_line parts)) files files (K.taken out.old) (K.taken out.new) }
+    ensures did { (files : Files)
+        → Did result (ends Done (linked_line parts)) files files (K.taken out.old) (K.taken out.new) }
     ensures write { result ≡ WriteFault → Rose (K.faults out.old) (K.faults out.new) }
     ensures quiet { (result ≡ ReadFault → ⊥) × (result ≡ SaveFault → ⊥) × (result ≡ Usage → ⊥) }
 {
@@ -80,7 +83,8 @@ fn link_loaded<K: Sink>(
     requires some { 1 ≤ length parts.now }
     requires few { length parts.now ≤ 64 }
     requires within { bytes_in parts.now ≤ 134217728 }
-    ensures did { (files : Files) → Did result (loaded_answer profile parts.now) files files (K.taken out.old) (K.taken out.new) }
+    ensures did { (files : Files)
+        → Did result (loaded_answer profile parts.now) files files (K.taken out.old) (K.taken out.new) }
     ensures write { result ≡ WriteFault → Rose (K.faults out.old) (K.faults out.new) }
     ensures quiet { (result ≡ ReadFault → ⊥) × (result ≡ SaveFault → ⊥) × (result ≡ Usage → ⊥) }
 {
@@ -102,8 +106,11 @@ pub fn link_files<F: Shelf, K: Sink>(
     shelf: &mut F,
     out: &mut K,
 ) -> Status
-    ensures did { (files : Files) → F.files shelf.old ≡ Some files → DidTold result (link_answer files profile words.now) files (F.files shelf.new) (K.taken out.old) (K.taken out.new) }
-    ensures read { result ≡ ReadFault → Rose (F.faults shelf.old) (F.faults shelf.new) × (K.taken out.new ≡ K.taken out.old) }
+    ensures did { (files : Files) → F.files shelf.old ≡ Some files
+        → DidTold result (link_answer files profile words.now) files (F.files shelf.new) (K.taken out.old)
+        (K.taken out.new) }
+    ensures read { result ≡ ReadFault
+        → Rose (F.faults shelf.old) (F.faults shelf.new) × (K.taken out.new ≡ K.taken out.old) }
     ensures write { result ≡ WriteFault → Rose (K.faults out.old) (K.faults out.new) }
     ensures known { (result ≡ SaveFault → ⊥) × (result ≡ Usage → ⊥) }
 {

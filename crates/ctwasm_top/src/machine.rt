@@ -117,8 +117,10 @@ pub fn run(
     ty: Option<ValType>,
     arguments: Vec<u32>,
 ) -> Result<Ran, AllocError>
-    requires { (params : Stack) × IsChecked params ty (map leaf_of code.now) × (length params ≡ length arguments.items) }
-    ensures { IfOk result (λ ran. (params : Stack) → IsChecked params ty (map leaf_of code.now) → RunsTo (callee params ty (map leaf_of code.now)) arguments.items ran.steps ran.result) }
+    requires { (params : Stack) × IsChecked params ty (map leaf_of code.now)
+        × (length params ≡ length arguments.items) }
+    ensures { IfOk result (λ ran. (params : Stack) → IsChecked params ty (map leaf_of code.now)
+        → RunsTo (callee params ty (map leaf_of code.now)) arguments.items ran.steps ran.result) }
 {
     let mut locals = arguments;
     let mut operands = Vec::new(alloc);

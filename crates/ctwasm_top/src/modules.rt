@@ -6,7 +6,7 @@ ghost use Rattle.ctw_ops.specs.declared.types.Label.{Label};
 ghost use Rattle.ctw_ops.specs.Tree.{Module as Tree};
 ghost use Rattle.ctw_ops.specs.Valid.{IsValid};
 ghost use Rattle.ctw_ops.specs.declared.numeric.Profile.{Profile};
-ghost use Rattle.ctw_module.specs.declared.fault.FormFault.{FormFault};
+ghost use Rattle.ctw_form.specs.declared.fault.FormFault.{FormFault};
 ghost use Rattle.ctw_module.specs.Trees.{tree, view_module};
 ghost use Rattle.ctw_modcheck.specs.Check.{fault_of};
 ghost use Rattle.ctw_modcheck.specs.declared.fault.Invalid.TheVariants as invalid;
@@ -18,9 +18,10 @@ ghost use Rattle.ctwasm_top.specs.Modules.{IsRefused, IsRead, IsReadValid};
 use crate::Status;
 use crate::lines::{check_line, read_line};
 use crate::outside::say;
+use ctw_form::FormFault;
 use ctw_io::Sink;
 use ctw_modcheck::{Invalid, check};
-use ctw_module::{FormFault, Module};
+use ctw_module::Module;
 use ctw_ops::Profile;
 use ctw_read::read;
 use std::alloc::Global;
@@ -122,7 +123,8 @@ fn refuse_invalid<K: Sink>(alloc: Global, out: &mut K, fault: Invalid, name: &st
 
 /// Answers for a file whose bytes are no module that is valid.
 pub fn refuse_module<K: Sink>(alloc: Global, out: &mut K, fault: ModuleFault, name: &str) -> Status
-    ensures did { (files : Files) (profile : Profile) (bytes : List ℕ) (go : Tree Label → Outcome) → IsRefused profile fault bytes
+    ensures did { (files : Files) (profile : Profile) (bytes : List ℕ) (go : Tree Label → Outcome)
+        → IsRefused profile fault bytes
         → Did result (read_valid profile name.now bytes go) files files (K.taken out.old) (K.taken out.new) }
     ensures write { result ≡ WriteFault → Rose (K.faults out.old) (K.faults out.new) }
     ensures quiet { (result ≡ ReadFault → ⊥) × (result ≡ SaveFault → ⊥) × (result ≡ Usage → ⊥) }

@@ -3,8 +3,9 @@ ghost use Rattle.std.specs.Prelude.{◌≡◌, ◌≤◌, ◌<◌, ◌^◌, Some
 ghost use Rattle.ctw_io.specs.Files.{Files};
 ghost use Rattle.ctw_io.specs.Faults.{Rose};
 ghost use Rattle.ctwasm_top.specs.declared.Status.TheVariants.{Usage, ReadFault, WriteFault, SaveFault};
-ghost use Rattle.ctwasm_top.specs.Session.{Began, Refused, VaultShort, fits, opened, plays};
-ghost use Rattle.ctwasm_top.specs.Lines.{reply_line};
+ghost use Rattle.ctw_script.specs.declared.reply.Reply.TheVariants.{Began, Refused};
+ghost use Rattle.ctw_script.specs.declared.reply.Refusal.TheVariants.{VaultShort};
+ghost use Rattle.ctwasm_top.specs.Session.{fits, opened, plays};
 ghost use Rattle.ctwasm_top.specs.Checked.{callee_of, IsNarrow};
 ghost use Rattle.ctwasm_top.specs.Answer.{delivered, finished, once_moves, module_call, once_call, once_answer};
 ghost use Rattle.ctwasm_top.specs.Headline.{DidTold};
@@ -12,25 +13,27 @@ ghost use Rattle.ctwasm_top.specs.Headline.{DidTold};
 use crate::Status;
 use crate::callable::callable;
 use crate::function::Function;
+use crate::lines::reply_line;
 use crate::modules::{read_valid, refuse_module};
 use crate::outside::{MODULE_LIMIT, load_file, refuse, refuse_load};
 use crate::session::{begin, turn};
-use crate::words::{Argument, ArgumentsFault, Once, read_arguments};
+use crate::words::Once;
 use ctw_io::{Fault, Shelf, Sink, send};
 use ctw_ops::Profile;
+use ctw_script::{Arg, Refusal, Reply};
 use std::alloc::Global;
 
 /// The greatest size of a vault, in bytes.
 const VAULT_LIMIT: u64 = 16_777_216;
 
-/// The line of the first move.
-fn first_line(begun: bool) -> &'static [u8]
-    ensures { result.now ≡ reply_line (if begun then Began else Refused VaultShort) }
+/// The reply to the first move.
+fn first_reply(begun: bool) -> Reply
+    ensures { result ≡ (if begun then Began else Refused VaultShort) }
 {
     if begun {
-        return b"began\n";
+        return Reply::Began;
     }
-    b"refused VaultShort\n"
+    Reply::Refused(Refusal::VaultShort)
 }
 
 /// Writes the last text, and then saves the bytes under the name.
@@ -41,7 +44,9 @@ fn deliver<F: Shelf, K: Sink>(
     text: &[u8],
     sealed: &[u8],
 ) -> Status
-    ensures did { (files : Files) → F.files shelf.old ≡ Some files → DidTold result (delivered name.now text.now sealed.now) files (F.files shelf.new) (K.taken out.old) (K.taken out.new) }
+    ensures did { (files : Files) → F.files shelf.old ≡ Some files
+        → DidTold result (delivered name.now text.now sealed.now) files (F.files shelf.new) (K.taken out.old)
+        (K.taken out.new) }
     ensures write { result ≡ WriteFault → Rose (K.faults out.old) (K.faults out.new) }
     ensures save { result ≡ SaveFault → Rose (F.faults shelf.old) (F.faults shelf.new) }
     ensures known { (result ≡ ReadFault → ⊥) × (result ≡ Usage → ⊥) }
@@ -64,7 +69,7 @@ fn play<F: Shelf, K: Sink>(
     alloc: Global,
     function: &Function,
     once: &Once,
-    arguments: &[Argument],
+    arguments: &[Arg],
     vault: &[u8],
     shelf: &mut F,
     out: &mut K,
@@ -72,7 +77,8 @@ fn play<F: Shelf, K: Sink>(
     requires narrow { All IsNarrow function.now.params }
     requires fit { fits function.now.params arguments.now ≡ true }
     ensures did { (files : Files) → F.files shelf.old ≡ Some files
-        → DidTold result (finished once.now.sealed (plays (callee_of function.now) (opened vault.now) (once_moves arguments.now))) files (F.files shelf.new) (K.taken out.old) (K.taken out.new) }
+        → DidTold result (finished once.now.sealed (plays (callee_of function.now) (opened vault.now)
+        (once_moves arguments.now))) files (F.files shelf.new) (K.taken out.old) (K.taken out.new) }
     ensures write { result ≡ WriteFault → Rose (K.faults out.old) (K.faults out.new) }
     ensures save { result ≡ SaveFault → Rose (F.faults shelf.old) (F.faults shelf.new) }
     ensures known { (result ≡ ReadFault → ⊥) × (result ≡ Usage → ⊥) }
@@ -81,7 +87,11 @@ fn play<F: Shelf, K: Sink>(
     let Ok(call) = begin(alloc, arguments, vault) else {
         return Status::NoMemory;
     };
-    match send(out, first_line(call.is_some())) {
+    let first = first_reply(call.is_some());
+    let Ok(line) = reply_line(alloc, &first) else {
+        return Status::NoMemory;
+    };
+    match send(out, &line) {
         Ok(()) => {}
         Err(Fault::Failed) => return Status::WriteFault,
         Err(Fault::NoMemory) => return Status::NoMemory,
@@ -89,14 +99,17 @@ fn play<F: Shelf, K: Sink>(
     let Ok(ending) = turn(alloc, function, call) else {
         return Status::NoMemory;
     };
-    deliver(shelf, out, once.sealed, &ending.line, &ending.sealed)
+    let Ok(last) = reply_line(alloc, &ending.reply) else {
+        return Status::NoMemory;
+    };
+    deliver(shelf, out, once.sealed, &last, &ending.sealed)
 }
 
 /// Makes the call that the words ask for, over the bytes of the module and of the vault.
 fn call<F: Shelf, K: Sink>(
     alloc: Global,
     once: &Once,
-    arguments: &[Argument],
+    arguments: &[Arg],
     bytes: &[u8],
     vault: &[u8],
     shelf: &mut F,
@@ -104,7 +117,8 @@ fn call<F: Shelf, K: Sink>(
 ) -> Status
     requires { length bytes.now < 2 ^ 32 }
     ensures did { (files : Files) → F.files shelf.old ≡ Some files
-        → DidTold result (module_call once.now arguments.now bytes.now vault.now) files (F.files shelf.new) (K.taken out.old) (K.taken out.new) }
+        → DidTold result (module_call once.now arguments.now bytes.now vault.now) files (F.files shelf.new)
+        (K.taken out.old) (K.taken out.new) }
     ensures write { result ≡ WriteFault → Rose (K.faults out.old) (K.faults out.new) }
     ensures save { result ≡ SaveFault → Rose (F.faults shelf.old) (F.faults shelf.new) }
     ensures known { (result ≡ ReadFault → ⊥) × (result ≡ Usage → ⊥) }
@@ -127,12 +141,15 @@ fn call<F: Shelf, K: Sink>(
 fn once<F: Shelf, K: Sink>(
     alloc: Global,
     once: &Once,
-    arguments: &[Argument],
+    arguments: &[Arg],
     shelf: &mut F,
     out: &mut K,
 ) -> Status
-    ensures did { (files : Files) → F.files shelf.old ≡ Some files → DidTold result (once_call files once.now arguments.now) files (F.files shelf.new) (K.taken out.old) (K.taken out.new) }
-    ensures read { result ≡ ReadFault → Rose (F.faults shelf.old) (F.faults shelf.new) × (K.taken out.new ≡ K.taken out.old) }
+    ensures did { (files : Files) → F.files shelf.old ≡ Some files
+        → DidTold result (once_call files once.now arguments.now) files (F.files shelf.new) (K.taken out.old)
+        (K.taken out.new) }
+    ensures read { result ≡ ReadFault
+        → Rose (F.faults shelf.old) (F.faults shelf.new) × (K.taken out.new ≡ K.taken out.old) }
     ensures write { result ≡ WriteFault → Rose (K.faults out.old) (K.faults out.new) }
     ensures save { result ≡ SaveFault → Rose (F.faults shelf.old) (F.faults shelf.new) }
     ensures known { result ≡ Usage → ⊥ }
@@ -155,8 +172,10 @@ pub fn run_once<F: Shelf, K: Sink>(
     shelf: &mut F,
     out: &mut K,
 ) -> Status
-    ensures did { (files : Files) → F.files shelf.old ≡ Some files → DidTold result (once_answer files words.now) files (F.files shelf.new) (K.taken out.old) (K.taken out.new) }
-    ensures read { result ≡ ReadFault → Rose (F.faults shelf.old) (F.faults shelf.new) × (K.taken out.new ≡ K.taken out.old) }
+    ensures did { (files : Files) → F.files shelf.old ≡ Some files
+        → DidTold result (once_answer files words.now) files (F.files shelf.new) (K.taken out.old) (K.taken out.new) }
+    ensures read { result ≡ ReadFault
+        → Rose (F.faults shelf.old) (F.faults shelf.new) × (K.taken out.new ≡ K.taken out.old) }
     ensures write { result ≡ WriteFault → Rose (K.faults out.old) (K.faults out.new) }
     ensures save { result ≡ SaveFault → Rose (F.faults shelf.old) (F.faults shelf.new) }
     ensures known { result ≡ Usage → ⊥ }
@@ -164,9 +183,8 @@ pub fn run_once<F: Shelf, K: Sink>(
     if let Some(word) = words.same_file() {
         return refuse(alloc, out, "SameFile", word);
     }
-    match read_arguments(alloc, words.arguments) {
-        Ok(arguments) => once(alloc, words, &arguments, shelf, out),
-        Err(ArgumentsFault::NoArgument(word)) => refuse(alloc, out, "NotBuilt", word),
-        Err(ArgumentsFault::NoMemory) => Status::NoMemory,
-    }
+    let Ok(arguments) = words.arguments.read(alloc) else {
+        return Status::NoMemory;
+    };
+    once(alloc, words, &arguments, shelf, out)
 }

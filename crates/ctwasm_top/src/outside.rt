@@ -47,7 +47,8 @@ pub fn say<K: Sink>(out: &mut K, text: &[u8], status: Status) -> Status
 
 /// Writes the line of a refusal: its kind, and the word that it is about.
 pub fn refuse<K: Sink>(alloc: Global, out: &mut K, kind: &str, word: &str) -> Status
-    ensures did { (files : Files) → Did result (refuses kind.now word.now) files files (K.taken out.old) (K.taken out.new) }
+    ensures did { (files : Files)
+        → Did result (refuses kind.now word.now) files files (K.taken out.old) (K.taken out.new) }
     ensures write { result ≡ WriteFault → Rose (K.faults out.old) (K.faults out.new) }
     ensures quiet { (result ≡ ReadFault → ⊥) × (result ≡ SaveFault → ⊥) × (result ≡ Usage → ⊥) }
     ensures kept { K.faults out.old ≤ K.faults out.new }
@@ -82,7 +83,8 @@ pub fn load_file<F: Shelf>(
 
 /// Answers for a file whose bytes aren't there.
 pub fn refuse_load<K: Sink>(alloc: Global, out: &mut K, fault: LoadFault, name: &str) -> Status
-    ensures did { (files : Files) (limit : ℕ) (file : Option (List ℕ)) (go : List ℕ → Outcome) → IsUnloaded fault limit file
+    ensures did { (files : Files) (limit : ℕ) (file : Option (List ℕ)) (go : List ℕ → Outcome)
+        → IsUnloaded fault limit file
         → Did result (on_file name.now limit file go) files files (K.taken out.old) (K.taken out.new) }
     ensures read { result ≡ ReadFault → (fault ≡ Failed) × (K.taken out.new ≡ K.taken out.old) }
     ensures write { result ≡ WriteFault → Rose (K.faults out.old) (K.faults out.new) }

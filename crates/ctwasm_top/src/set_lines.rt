@@ -1,7 +1,8 @@
 // The lines about sets of modules.
 ghost use Rattle.std.specs.Prelude.{◌≡◌, ◌++◌, ◌∷◌, [], map, OnOk, IfOk, codes, decimal};
 ghost use Rattle.ctw_link.specs.Sets.{ModuleSet};
-ghost use Rattle.ctwasm_top.specs.Lines.{value_word, value_words, result_words, trust_text, function_text, size_word, limits_text, secret_text, mutable_text, external_text, words_text, part_name, link_words, link_line, linked_line};
+ghost use Rattle.ctw_script.specs.Lines.{blank_before_each};
+ghost use Rattle.ctwasm_top.specs.Lines.{value_word, value_words, result_words, trust_text, function_text, size_word, limits_text, secret_text, mutable_text, external_text, part_name, link_words, link_line, linked_line};
 ghost use Rattle.ctwasm_top.specs.Parts.{AreNamed};
 
 use crate::function::value_types;
@@ -27,7 +28,7 @@ fn value_word(ty: ValType) -> &'static [u8]
 
 /// Adds types, each behind a blank.
 fn add_more_values(line: &mut Vec<u8>, types: &[ValType]) -> Result<(), AllocError>
-    ensures { OnOk result (line.new.items ≡ line.old.items ++ words_text (map value_word types.now)) }
+    ensures { OnOk result (line.new.items ≡ line.old.items ++ blank_before_each (map value_word types.now)) }
 {
     'types: for ty in types {
         add_word(line, value_word(*ty))?;
@@ -141,7 +142,7 @@ fn add_external(alloc: Global, line: &mut Vec<u8>, kind: &ExternKind) -> Result<
 
 /// Adds the type of a thing behind a blank.
 fn add_external_word(alloc: Global, line: &mut Vec<u8>, kind: &ExternKind) -> Result<(), AllocError>
-    ensures { OnOk result (line.new.items ≡ line.old.items ++ words_text (external_text kind.now ∷ [])) }
+    ensures { OnOk result (line.new.items ≡ line.old.items ++ blank_before_each (external_text kind.now ∷ [])) }
 {
     line.push(b' ')?;
     add_external(alloc, line, kind)
@@ -149,7 +150,7 @@ fn add_external_word(alloc: Global, line: &mut Vec<u8>, kind: &ExternKind) -> Re
 
 /// Adds a function's type behind a blank.
 fn add_function_word(alloc: Global, line: &mut Vec<u8>, ty: &FuncType) -> Result<(), AllocError>
-    ensures { OnOk result (line.new.items ≡ line.old.items ++ words_text (function_text ty.now ∷ [])) }
+    ensures { OnOk result (line.new.items ≡ line.old.items ++ blank_before_each (function_text ty.now ∷ [])) }
 {
     line.push(b' ')?;
     add_function_type(alloc, line, ty)
@@ -167,7 +168,7 @@ fn part_name<'a>(parts: &[LoadedPart<'a>], index: u32) -> &'a str
 
 /// Adds a kind, a part's name and the number of an import.
 fn add_import(line: &mut Vec<u8>, kind: &[u8], part: &str, import: u32) -> Result<(), AllocError>
-    ensures { OnOk result (line.new.items ≡ line.old.items ++ words_text (kind.now ∷ part.now ∷ decimal import ∷ [])) }
+    ensures { OnOk result (line.new.items ≡ line.old.items ++ blank_before_each (kind.now ∷ part.now ∷ decimal import ∷ [])) }
 {
     add_word(line, kind)?;
     add_word(line, part.as_bytes())?;
@@ -183,7 +184,10 @@ fn add_import_type(
     want: &ExternKind,
     got: &ExternKind,
 ) -> Result<(), AllocError>
-    ensures { OnOk result (line.new.items ≡ line.old.items ++ words_text (codes "ImportType" ∷ part.now ∷ decimal import ∷ external_text want.now ∷ external_text got.now ∷ [])) }
+    ensures { OnOk result (line.new.items
+        ≡ line.old.items
+        ++ blank_before_each (codes "ImportType" ∷ part.now ∷ decimal import ∷ external_text want.now ∷ external_text got.now
+        ∷ [])) }
 {
     add_import(line, b"ImportType", part, import)?;
     add_external_word(alloc, line, want)?;
@@ -198,7 +202,9 @@ fn add_mix(
     a: &FuncType,
     b: &FuncType,
 ) -> Result<(), AllocError>
-    ensures { OnOk result (line.new.items ≡ line.old.items ++ words_text (codes "TableMix" ∷ decimal table ∷ function_text a.now ∷ function_text b.now ∷ [])) }
+    ensures { OnOk result (line.new.items
+        ≡ line.old.items
+        ++ blank_before_each (codes "TableMix" ∷ decimal table ∷ function_text a.now ∷ function_text b.now ∷ [])) }
 {
     add_numbered(line, b"TableMix", table)?;
     add_function_word(alloc, line, a)?;
@@ -207,7 +213,8 @@ fn add_mix(
 
 /// Adds how many entries there are too many.
 fn add_entries(line: &mut Vec<u8>, entries: u64) -> Result<(), AllocError>
-    ensures { OnOk result (line.new.items ≡ line.old.items ++ words_text (codes "TooManyEntries" ∷ decimal entries ∷ [])) }
+    ensures { OnOk result (line.new.items
+        ≡ line.old.items ++ blank_before_each (codes "TooManyEntries" ∷ decimal entries ∷ [])) }
 {
     let mut buffer = Buffer::new();
     add_word(line, b"TooManyEntries")?;
@@ -221,7 +228,8 @@ fn add_link_fault(
     parts: &[LoadedPart],
     fault: &LinkFault,
 ) -> Result<(), AllocError>
-    ensures { (set : ModuleSet) → AreNamed set parts.now → OnOk result (line.new.items ≡ line.old.items ++ words_text (link_words set fault.now)) }
+    ensures { (set : ModuleSet) → AreNamed set parts.now
+        → OnOk result (line.new.items ≡ line.old.items ++ blank_before_each (link_words set fault.now)) }
 {
     match fault {
         LinkFault::NoImport { part, import } => {

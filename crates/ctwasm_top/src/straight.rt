@@ -124,7 +124,8 @@ fn is_end(instr: &Instr) -> bool
 /// The instructions of a straight body, its end apart; None where it isn't straight, or has too many.
 pub fn straight_code(alloc: Global, body: &Body) -> Result<Option<Vec<StraightInstr>>, AllocError>
     requires { (code : Code Label) × IsLimitedBody body.now code }
-    ensures { (code : Code Label) → IsLimitedBody body.now code → IfOk result (λ r. option_map (λ v. map leaf_of v.items) r ≡ few (straight_leaves code)) }
+    ensures { (code : Code Label) → IsLimitedBody body.now code
+        → IfOk result (λ r. option_map (λ v. map leaf_of v.items) r ≡ few (straight_leaves code)) }
 {
     let mut code = Vec::new(alloc);
     let mut at = 0;

@@ -1,14 +1,78 @@
 // The words of a command.
-ghost use Rattle.std.specs.Prelude.{◌≡◌, ◌≤◌, map, filter_map, option_map, is_some, true, length, ◌<◌, string_bytes, IfOk};
-ghost use Rattle.std.specs.List.{list_all};
-ghost use Rattle.std.specs.Char.{is_ascii_digit};
-ghost use Rattle.ctwasm_top.specs.Words.{once_words, named_file, named_files, link_words, check_command, canon_command, profiled_command, mul_command, command_of, has_empty, same_file, small_number, argument_of, arguments_of};
-ghost use Rattle.ctwasm_top.specs.Arguments.{AreArguments};
+ghost use Rattle.std.specs.Prelude.{◌≡◌, ◌≤◌, map, filter_map, option_map, is_some, length, string_bytes, IfOk};
+ghost use Rattle.ctw_script.specs.MoveValues.{argument_value};
+ghost use Rattle.ctwasm_top.specs.Words.{once_words, named_file, named_files, link_words, check_command, canon_command, profiled_command, mul_command, command_of, same_file, arguments_of};
 ghost use Rattle.ctwasm_top.specs.Commands.{part_named, command_in};
 
 use ctw_ops::Profile;
-use std::alloc::{AllocError, AllocFailed, Global};
+use ctw_script::{Arg, argument};
+use std::alloc::{AllocError, Global};
 use std::marker::Model;
+
+/// Whether each word is an argument.
+fn are_arguments(words: &[String]) -> bool
+    ensures { result ≡ is_some (arguments_of (map string_bytes words.now)) }
+{
+    'words: for word in words {
+        if argument(word.as_str()).is_none() {
+            return false;
+        }
+    }
+    true
+}
+
+/// The arguments that words are, in order; other words are passed over.
+fn read_arguments(alloc: Global, words: &[String]) -> Result<Vec<Arg>, AllocError>
+    ensures { IfOk result (λ arguments. arguments.items ≡ filter_map argument_value (map string_bytes words.now)) }
+{
+    let mut arguments = Vec::new(alloc);
+    'words: for word in words {
+        let Some(next) = argument(word.as_str()) else {
+            continue 'words;
+        };
+        arguments.push(next)?;
+    }
+    Ok(arguments)
+}
+
+/// Words that are arguments of a call, each `*` or a number as in a script. Contracts see the arguments that they are.
+#[derive(Drop)]
+pub struct ArgumentWords<'a> {
+    words: &'a [String],
+}
+
+impl<'a> Model for ArgumentWords<'a> {
+    ghost use Rattle.std.specs.Prelude.{◌≡◌, List, Some, map, filter_map, string_bytes};
+    ghost use Rattle.ctw_script.specs.declared.moves.Arg.{Arg as AnArg};
+    ghost use Rattle.ctw_script.specs.MoveValues.{argument_value};
+    ghost use Rattle.ctwasm_top.specs.OnceWords.{arguments_of};
+
+    ghost Value = { List AnArg };
+
+    ghost view = { λ w. filter_map argument_value (map string_bytes w.words.now) };
+
+    ghost invariant = { λ w. arguments_of (map string_bytes w.words.now)
+        ≡ Some (filter_map argument_value (map string_bytes w.words.now)) };
+}
+
+impl<'a> ArgumentWords<'a> {
+    /// The arguments, in order.
+    pub fn read(&self, alloc: Global) -> Result<Vec<Arg>, AllocError>
+        ensures { IfOk result (λ arguments. arguments.items ≡ self.now) }
+    {
+        read_arguments(alloc, self.words)
+    }
+}
+
+/// The words of arguments; None where one of them is none.
+fn argument_words(words: &[String]) -> Option<ArgumentWords<'_>>
+    ensures { result ≡ arguments_of (map string_bytes words.now) }
+{
+    if !are_arguments(words) {
+        return None;
+    }
+    Some(ArgumentWords { words })
+}
 
 /// The words of `once M VAULT SEALED EXPORT ARG..`.
 #[derive(Drop)]
@@ -17,16 +81,22 @@ pub struct Once<'a> {
     pub vault: &'a str,
     pub sealed: &'a str,
     pub export: &'a str,
-    pub arguments: &'a [String],
+    pub arguments: ArgumentWords<'a>,
 }
 
 impl<'a> Model for Once<'a> {
-    ghost use Rattle.std.specs.Prelude.{map, string_bytes};
     ghost use Rattle.ctwasm_top.specs.OnceWords.{OnceWords};
 
     ghost Value = { OnceWords };
 
-    ghost view = { λ w. record { module_file = w.module_file.now; vault = w.vault.now; sealed = w.sealed.now; export = w.export.now; arguments = map string_bytes w.arguments.now } };
+    ghost view = { λ w.
+        record {
+          module_file = w.module_file.now;
+          vault = w.vault.now;
+          sealed = w.sealed.now;
+          export = w.export.now;
+          arguments = w.arguments;
+        } };
 }
 
 /// The most parts of a command.
@@ -123,37 +193,17 @@ fn link_words(words: &[String]) -> Option<LinkWords<'_>>
     Some(LinkWords { words: parts })
 }
 
-/// An argument of the called function.
-#[derive(Clone, Copy, Debug, PartialEq, Eq)]
-pub enum Argument {
-    /// A number of 32 bits.
-    Number(u32),
-    /// The next four bytes of the vault.
-    Vault,
-}
-
-/// Whether a word has no character.
-fn has_empty(words: &[String]) -> bool
-    ensures { result ≡ has_empty (map string_bytes words.now) }
-{
-    for word in words {
-        if word.is_empty() {
-            return true;
-        }
-    }
-    false
-}
-
 /// The words of `once`; None where they have another form.
 fn once_words(words: &[String]) -> Option<Once<'_>>
     ensures { result ≡ once_words (map string_bytes words.now) }
 {
-    let [command, module_file, vault, sealed, export, arguments @ ..] = words else {
+    let [command, module_file, vault, sealed, export, others @ ..] = words else {
         return None;
     };
-    if command.as_str() != "once" || has_empty(arguments) {
+    if command.as_str() != "once" {
         return None;
     }
+    let arguments = argument_words(others)?;
     Some(Once {
         module_file: module_file.as_str(),
         vault: vault.as_str(),
@@ -260,77 +310,4 @@ impl<'a> Once<'a> {
         }
         None
     }
-}
-
-/// Whether all bytes are decimal digits.
-fn all_digits(bytes: &[u8]) -> bool
-    ensures { result ≡ list_all is_ascii_digit bytes.now }
-{
-    bytes.iter().all(|byte| byte.is_ascii_digit())
-}
-
-/// The number that digits write, where it has 32 bits.
-fn number(digits: &str) -> Option<u32>
-    requires some { 0 < length digits.now }
-    requires digits { list_all is_ascii_digit digits.now ≡ true }
-    ensures { result ≡ small_number digits.now }
-{
-    match digits.parse::<u32>() {
-        Ok(number) => Some(number),
-        Err(_) => None,
-    }
-}
-
-/// The argument that a word stands for; None where it is neither `*` nor a number below 2^32 in one to ten digits.
-#[tactic(auto, unfolding(crate::specs::Words::argument_of))]
-fn read_argument(word: &str) -> Option<Argument>
-    ensures { result ≡ argument_of word.now }
-{
-    if word == "*" {
-        return Some(Argument::Vault);
-    }
-    if word.is_empty() || word.len() > 10 || !all_digits(word.as_bytes()) {
-        return None;
-    }
-    match number(word) {
-        Some(number) => Some(Argument::Number(number)),
-        None => None,
-    }
-}
-
-/// Why words are no arguments.
-#[derive(Drop)]
-pub enum ArgumentsFault<'a> {
-    /// This word is none, and none before it is.
-    NoArgument(&'a str),
-    /// Memory was wanting.
-    NoMemory,
-}
-
-impl<'a, T: Drop> From<AllocFailed<T>> for ArgumentsFault<'a> {
-    ghost use Rattle.std.specs.Prelude.{◌≡◌};
-    ghost use Rattle.ctwasm_top.specs.declared.words.ArgumentsFault.TheVariants.{NoMemory};
-
-    ghost from_gives = { λ _ fault. fault ≡ NoMemory };
-
-    fn from(_fault: AllocFailed<T>) -> ArgumentsFault<'a> {
-        ArgumentsFault::NoMemory
-    }
-}
-
-/// The arguments that words stand for, or the first word that stands for none.
-pub fn read_arguments<'a>(
-    alloc: Global,
-    words: &'a [String],
-) -> Result<Vec<Argument>, ArgumentsFault<'a>>
-    ensures { AreArguments result (arguments_of (map string_bytes words.now)) }
-{
-    let mut arguments = Vec::new(alloc);
-    for word in words {
-        let Some(argument) = read_argument(word.as_str()) else {
-            return Err(ArgumentsFault::NoArgument(word.as_str()));
-        };
-        arguments.push(argument)?;
-    }
-    Ok(arguments)
 }

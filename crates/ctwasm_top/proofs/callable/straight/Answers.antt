@@ -4,7 +4,7 @@ use Rattle.std.proofs.Common.{Vec, Global, ◌≡◌, ◌<◌, ◌≤◌, ℕ, L
 use Rattle.ctw_ops.specs.declared.types.Label.{Label}
 use Rattle.std.specs.List.{list_all}
 use Rattle.ctw_ops.specs.Types.{ValueType, FunctionType, byte_types, is_type_byte}
-use Rattle.ctw_module.proofs.Params.{types_length}
+use Rattle.ctw_form.proofs.Params.{types_length}
 use Rattle.ctw_ops.specs.Code.{Leaf, Code}
 use Rattle.ctw_ops.specs.Tree.{Module, Function, function_entries, type_named}
 use Rattle.ctw_ops.specs.Valid.{IsValid}

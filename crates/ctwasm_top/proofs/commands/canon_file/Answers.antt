@@ -1,6 +1,6 @@
 use Rattle.std.proofs.Common.{◌≤◌, ℕ, List, Some, length, sym, ap, ◌∙◌, subst}
 use Rattle.ctw_module.specs.Trees.{tree}
-use Rattle.ctw_module.specs.Read.{module_at}
+use Rattle.ctw_form.specs.Read.{module_at}
 use Rattle.ctw_write.specs.Canon.{canon}
 use Rattle.ctwasm_top.specs.declared.modules.FormError.{FormError}
 use Rattle.ctwasm_top.specs.declared.Status.TheVariants.{Done}

@@ -1,7 +1,7 @@
 use Rattle.std.proofs.Common.{subst}
-use Rattle.ctw_module.specs.Read.{file_at}
+use Rattle.ctw_form.specs.Read.{file_at}
 use Rattle.ctw_module.specs.Trees.{tree}
-use Rattle.ctw_module.proofs.FileForms.{module_complete}
+use Rattle.ctw_form.proofs.FileForms.{module_complete}
 use Rattle.ctw_read.specs.declared.fault.ReadFault.{ReadFault}
 use Rattle.ctw_read.specs.Calls.{FailsWith}
 use Rattle.ctwasm_top.proofs.ModulesRead.{module_err}

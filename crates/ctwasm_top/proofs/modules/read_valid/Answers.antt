@@ -1,8 +1,7 @@
 use Rattle.std.proofs.Common.{Ok, sym, ap, ◌∙◌}
-use Rattle.ctw_ops.specs.Tree.{under}
 use Rattle.ctw_module.specs.Trees.{Lent, tree, view_module}
 use Rattle.ctw_modcheck.proofs.Validity.{valid_is_none}
-use Rattle.ctwasm_top.proofs.Profiles.{under_ok, under_err}
+use Rattle.ctwasm_top.proofs.Profiles.{under_ok}
 use Rattle.ctwasm_top.proofs.modules.read_valid.Goals as goal
 
 pub returns-in-Ok-check-clause-told : goal.returns-in-Ok-check-clause-told

@@ -1,17 +1,17 @@
-use Rattle.std.proofs.Common.{◌∙◌, sym, ap, string_bytes, drop}
-use Rattle.std.proofs.lemmas.List.{drop_all}
-use Rattle.ctwasm_top.specs.Words.{NoArgument, argument_of}
-use Rattle.ctwasm_top.proofs.ArgumentsRead.{arguments_next, arguments_bad, arguments_all}
+use Rattle.std.proofs.Common.{string_bytes, Some, None, append-nil, sym, ap, ◌∙◌}
+use Rattle.ctw_script.specs.MoveValues.{argument_value}
+use Rattle.ctwasm_top.proofs.WordsRead.{found_more, found_all}
 use Rattle.ctwasm_top.proofs.words.read_arguments.Goals as goal
 
-pub returns-in_default : goal.returns-in_default
-returns-in_default c = arguments_bad string_bytes c.args.words.now c.loop-word.word-index c.word-item.result c.loop-word.arguments.items c.loop-word-test.true c.word-item.is
-    (ap argument_of (sym c.as_str.ensures.value) ∙ sym c.read_argument.ensures ∙ c.in_default.is) c.loop-word.invariant
-    ∙ ap NoArgument (sym c.as_str-in_default.ensures.value)
+pub words-preserved-in_default : goal.words-preserved-in_default
+words-preserved-in_default c =
+    found_more argument_value string_bytes c.args.words.now c.words.word-index c.word-item.result None c.words.arguments.items c.words.arguments.items c.words-test.true c.word-item.is
+    (ap argument_value (sym c.as_str.ensures.value) ∙ sym c.argument.ensures.value ∙ c.in_default.is) c.words.invariant (sym (append-nil c.words.arguments.items))
 
-pub loop-word-preserved : goal.loop-word-preserved
-loop-word-preserved c = rw c.in_ok-push.ensures.items (arguments_next string_bytes c.args.words.now c.loop-word.word-index c.word-item.result c.in-Some.argument c.loop-word.arguments.items c.loop-word-test.true c.word-item.is
-    (ap argument_of (sym c.as_str.ensures.value) ∙ sym c.read_argument.ensures ∙ c.in-Some.is) c.loop-word.invariant)
+pub words-preserved : goal.words-preserved
+words-preserved c =
+    found_more argument_value string_bytes c.args.words.now c.words.word-index c.word-item.result (Some c.in-Some.next) c.words.arguments.items c.push.new.self.items c.words-test.true c.word-item.is
+    (ap argument_value (sym c.as_str.ensures.value) ∙ sym c.argument.ensures.value ∙ c.in-Some.is) c.words.invariant c.in_ok-push.ensures.items
 
 pub returns : goal.returns
-returns c = arguments_all string_bytes c.args.words.now c.loop-word.arguments.items (drop c.loop-word.word-index c.args.words.now) (drop_all c.loop-word.word-index c.args.words.now c.loop-word-test.false) c.loop-word.invariant
+returns c = found_all argument_value string_bytes c.args.words.now c.words.word-index c.words.arguments.items c.words-test.false c.words.invariant

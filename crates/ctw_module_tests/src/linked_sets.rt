@@ -1,5 +1,5 @@
 ghost use Rattle.std.specs.Prelude.{◌<◌, length};
-ghost use Rattle.ctw_tests.specs.Small.{IsSmall};
+ghost use Rattle.ctw_module_tests.specs.Small.{IsSmall};
 
 use crate::cases::bytes_in;
 use ctw_link::{LinkedSet, Part, link};
@@ -19,7 +19,8 @@ const EXPORTER: &str = "\
 07 0D 03 01 66 00 00 01 6D 02 00 01 67 03 00
 0A 04 01 02 00 0B";
 
-/// A module that imports these from `a`, and defines two functions, a table and a global. The first function is a block.
+/// A module that imports these from `a`, and defines two functions, a table and a global.
+/// The first function is a block.
 const IMPORTER: &str = "\
 00 61 73 6D 01 00 43 54
 01 04 01 60 00 00
@@ -53,8 +54,8 @@ fn memory_and_table(
     assert!(rt; set.table_of(part) == table);
 }
 
-/// A function of a part by its index: its number in the store, the part and index that define it, and where the block at
-/// the start of its body ends.
+/// A function of a part by its index: its number in the store, the part and index that define it, and where the block
+/// at the start of its body ends.
 fn function(
     rt: &impl Abort,
     set: &LinkedSet,

@@ -7,7 +7,7 @@ use Rattle.ctw_link.specs.declared.set.Part.{Part}
 use Rattle.ctw_link.specs.Sets.{NamedModule, defined_in, part_in}
 use Rattle.ctw_link.specs.Linked.{IsValidPart, CanBeLinked}
 use Rattle.ctw_link.proofs.Counts.{things_are}
-use Rattle.ctw_tests.specs.Small.{IsSmall}
+use Rattle.ctw_module_tests.specs.Small.{IsSmall}
 
 pub linkable : (p q : Part) → IsSmall p → IsSmall q → CanBeLinked (p ∷ q ∷ [])
 linkable p q sp sq =

@@ -1,8 +1,8 @@
 use crate::cases::{agrees, bytes_in};
-use crate::question;
 use ctw_modcheck::check;
 use ctw_ops::Profile;
 use ctw_read::read;
+use ctw_tests::question;
 use std::alloc::{AllocError, Global};
 use std::process::Abort;
 
@@ -71,7 +71,8 @@ bodies, the first bad body, with imports counted: 010401 600000 020701 016D01660
 bodies, an untrusted function calls a trusted one: 010702 600000 610000 030302 00 01 0A0902 040010010B 02000B => function 0: trust wanted at opcode 0
 ";
 
-/// The same, with faults in two lists that are looked at one after the other, and two faults of one list both ways round.
+/// The same, with faults in two lists that are looked at one after the other,
+/// and two faults of one list both ways round.
 const ORDERS: &str = "\
 lists, types before imports: 010902 600000 6209000000 020A01 016D01740170010201 => bad variant 1
 lists, imports before functions: 010401 600000 020A01 016D01740170010201 030302 00 07 0A0702 02000B 02000B => bad limits in Imports

@@ -3,19 +3,19 @@ ghost use Rattle.ctw_ops.specs.Valid.{IsValid};
 ghost use Rattle.ctw_module.specs.Trees.{view_module};
 
 use crate::cases::{agrees, bytes_in};
-use crate::question;
 use crate::validity::shown;
 use ctw_leb::put_u32;
 use ctw_modcheck::check;
 use ctw_module::Module;
 use ctw_ops::Profile;
 use ctw_read::read;
+use ctw_tests::question;
 use ctw_valid::check_body;
 use std::alloc::{AllocError, Global};
 use std::process::Abort;
 
-/// A CT module without its code: a table, a public memory, a global i32, a constant global s32, and four functions: () to
-/// (), (s32) to (), a trusted (s32) to (i32), and (i32 s32) to (i32).
+/// A CT module without its code: a table, a public memory, a global i32, a constant global s32, and four functions: ()
+/// to (), (s32) to (), a trusted (s32) to (i32), and (i32 s32) to (i32).
 const AROUND: &str = "\
 00 61 73 6D 01 00 43 54
 01 13 04 60 00 00 60 01 7A 00 61 01 7A 01 7F 60 02 7F 7A 01 7F
@@ -24,11 +24,12 @@ const AROUND: &str = "\
 05 03 01 00 01
 06 0C 02 7F 01 41 00 0B 7A 00 E0 41 00 0B";
 
-/// The bodies of the last three functions, which have their types: nothing; the lowest bit, declassified; the first local.
+/// The bodies of the last three functions, which have their types: nothing; the lowest bit, declassified;
+/// the first local.
 const OTHERS: &str = "02 00 0B 0A 00 20 00 E0 41 01 E0 71 E3 0B 04 00 20 00 0B";
 
-/// Code of the first function, whose locals are an i32 and an s32: its instructions, its bytes, and whether the module is
-/// valid or what is wrong.
+/// Code of the first function, whose locals are an i32 and an s32: its instructions, its bytes, and whether the module
+/// is valid or what is wrong.
 const CODE: &str = "\
 local.get, local.tee, global.set: 20 00 22 00 24 00 0B => valid
 i32.const, i32.load, memory.grow, drop: 41 00 28 02 00 40 00 1A 0B => valid

@@ -1,7 +1,7 @@
 use Rattle.std.proofs.Common.{sym, subst}
 use Rattle.ctw_link.specs.Linked.{CanBeLinked}
-use Rattle.ctw_tests.proofs.Linkable.{linkable}
-use Rattle.ctw_tests.proofs.linked_sets.linked.Goals as goal
+use Rattle.ctw_module_tests.proofs.Linkable.{linkable}
+use Rattle.ctw_module_tests.proofs.linked_sets.linked.Goals as goal
 
 pub link-requires : goal.link-requires
 link-requires g c =

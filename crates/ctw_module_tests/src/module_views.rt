@@ -193,3 +193,18 @@ fn segments_and_custom_sections_end(rt: HostRuntime) {
     }
     assert!(rt; module.custom(2).is_none());
 }
+
+#[test]
+fn what_is_imported_and_defined_is_told(rt: HostRuntime) {
+    let bytes = bytes_in(&rt, rt.alloc(), FILE);
+    let module = module_of(&rt, rt.alloc(), &bytes);
+    assert!(rt; module.element_count() == 2);
+    assert!(rt; module.segment_count() == 1);
+    assert!(rt; module.custom_count() == 2);
+    assert!(rt; module.imported_count(ExternTag::Func) == 1);
+    assert!(rt; module.imported_count(ExternTag::Table) == 1);
+    assert!(rt; module.imported_count(ExternTag::Memory) == 1);
+    assert!(rt; module.imported_count(ExternTag::Global) == 1);
+    assert!(rt; module.defined_memory().is_none());
+    assert!(rt; module.defined_table().is_none());
+}

@@ -1,8 +1,8 @@
 ghost use Rattle.std.specs.Prelude.{◌<◌, ◌^◌, length};
 
 use crate::cases::{agrees, bytes_in};
-use crate::question;
 use ctw_read::read;
+use ctw_tests::question;
 use std::alloc::{AllocError, Global};
 use std::process::Abort;
 
@@ -96,9 +96,9 @@ FF => BadSection at byte 8
 03 01 00 => a module
 ";
 
-/// Code of one function of a plain module, and what reading answers: sizes of entries, open bodies, opcodes, block types
-/// and locals. Bytes that stand for labels elsewhere are here bytes like any other. 50,000 is D0 86 03, and the limit on a
-/// function's locals comes before the type of a group and before the limit on the locals of all functions.
+/// Code of one function of a plain module, and what reading answers: sizes of entries, open bodies, opcodes, block
+/// types and locals. Bytes that stand for labels elsewhere are here bytes like any other. 50,000 is D0 86 03, and the
+/// limit on a function's locals comes before the type of a group and before the limit on the locals of all functions.
 const PLAIN_CODE: &str = "\
 0A 01 00 => CountMismatch at byte 20
 0A 02 01 00 => SizeMismatch at byte 22
@@ -190,8 +190,8 @@ fn files_are_read_or_have_a_first_fault(rt: HostRuntime) {
 /// Times, and the bytes that stand there so often.
 type Piece = (u32, &'static str);
 
-/// Files at a limit and behind it, by pieces, and what reading answers: parameters of a type, locals of all functions, blocks in
-/// one another, and bytes of a plain module and of a CT module.
+/// Files at a limit and behind it, by pieces, and what reading answers: parameters of a type, locals of all functions,
+/// blocks in one another, and bytes of a plain module and of a CT module.
 const LIMITS: [(&[Piece], &str); 9] = [
     (
         &[
