@@ -21,6 +21,7 @@ use ctw_ops::{Label, ValType, Width};
 use std::alloc::AllocError;
 
 /// One byte.
+#[inline(always)]
 fn put_byte(out: &mut Vec<u8>, byte: u8) -> Result<(), AllocError>
     ensures { OnOk result (out.new.items ≡ out.old.items ++ byte ∷ []) }
 {
@@ -29,6 +30,7 @@ fn put_byte(out: &mut Vec<u8>, byte: u8) -> Result<(), AllocError>
 }
 
 /// An opcode.
+#[inline(always)]
 fn put_opcode(out: &mut Vec<u8>, form: Form) -> Result<(), AllocError>
     ensures { OnOk result (out.new.items ≡ out.old.items ++ opcode_byte form ∷ []) }
 {
@@ -36,6 +38,7 @@ fn put_opcode(out: &mut Vec<u8>, form: Form) -> Result<(), AllocError>
 }
 
 /// An opcode with its prefix, if it is secret.
+#[inline(always)]
 fn put_form(out: &mut Vec<u8>, label: Label, form: Form) -> Result<(), AllocError>
     ensures { OnOk result (out.new.items ≡ out.old.items ++ in_form label (opcode_byte form ∷ [])) }
 {
@@ -46,6 +49,7 @@ fn put_form(out: &mut Vec<u8>, label: Label, form: Form) -> Result<(), AllocErro
 }
 
 /// An opcode with an index.
+#[inline(always)]
 fn put_indexed(out: &mut Vec<u8>, form: Form, index: u32) -> Result<(), AllocError>
     ensures { OnOk result (out.new.items ≡ out.old.items ++ opcode_byte form ∷ u32_text index) }
 {
@@ -62,6 +66,7 @@ fn put_reserved(out: &mut Vec<u8>, form: Form) -> Result<(), AllocError>
 }
 
 /// An opcode that opens a block, with the type of its result.
+#[inline(always)]
 fn put_block(
     out: &mut Vec<u8>,
     opener: Opener,
@@ -78,6 +83,7 @@ fn put_block(
 }
 
 /// A load or a store.
+#[inline(always)]
 fn put_access(
     out: &mut Vec<u8>,
     label: Label,
@@ -94,6 +100,7 @@ fn put_access(
 }
 
 /// A number by its bits.
+#[inline(always)]
 fn put_bits(out: &mut Vec<u8>, width: Width, bits: u64) -> Result<(), AllocError>
     requires { FitsWidth width bits }
     ensures { OnOk result (out.new.items ≡ out.old.items ++ bits_text width bits) }
@@ -105,6 +112,7 @@ fn put_bits(out: &mut Vec<u8>, width: Width, bits: u64) -> Result<(), AllocError
 }
 
 /// A constant.
+#[inline(always)]
 pub(crate) fn put_const(
     out: &mut Vec<u8>,
     width: Width,
