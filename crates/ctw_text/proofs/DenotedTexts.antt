@@ -1,5 +1,6 @@
 -- Texts and the modules that they denote.
 use Rattle.std.specs.Prelude.{◌≡◌, true, false, [], ◌∷◌, Some, None, Ok, Err, refl, codes}
+use Rattle.ctw_ops.specs.Limits.{most_params, most_locals, most_locals_of_all}
 use Rattle.ctw_text.specs.Words.{key_of}
 use Rattle.ctw_ops.specs.declared.numeric.Profile.TheVariants.{Divide}
 use Rattle.ctw_ops.specs.declared.types.Label.TheVariants.{Public, Secret}
@@ -25,7 +26,7 @@ pub folded_sum : assembled (codes "(module (func (result i32) (i32.add (i32.cons
   segments = [];
   customs = [];
 })
-unfolding key_of
+unfolding key_of most_params most_locals most_locals_of_all
 folded_sum = refl
 
 pub sign_extension : assembled (codes "(module (func (param i32) (result i32) (i32.extend8_s (local.get 0))))") ≡ Ok (record {
@@ -43,11 +44,11 @@ pub sign_extension : assembled (codes "(module (func (param i32) (result i32) (i
   segments = [];
   customs = [];
 })
-unfolding key_of
+unfolding key_of most_params most_locals most_locals_of_all
 sign_extension = refl
 
 pub cut_off_function : assembled (codes "(module (func nop") ≡ Err (AtUnexpected 17 17)
-unfolding key_of
+unfolding key_of most_params most_locals most_locals_of_all
 cut_off_function = refl
 
 pub secret_sum : assembled (codes "(module ct\n  (type (func (param s32 i32) (result s32)))\n  (func (type 0)\n    local.get 0\n    local.get 1\n    i32.classify\n    s32.add\n  )\n  (export \"f\" (func 0))\n)\n") ≡ Ok (record {
@@ -65,5 +66,5 @@ pub secret_sum : assembled (codes "(module ct\n  (type (func (param s32 i32) (re
   segments = [];
   customs = [];
 })
-unfolding key_of
+unfolding key_of most_params most_locals most_locals_of_all
 secret_sum = refl

@@ -9,6 +9,7 @@ use Rattle.ctw_ops.specs.Equal.{same_type}
 use Rattle.ctw_ops.specs.Types.{FunctionType}
 use Rattle.ctw_ops.specs.Code as ops
 use Rattle.ctw_ops.specs.Code.{Code, Stop, ByEnd}
+use Rattle.ctw_ops.specs.Limits.{most_params, most_results, most_nesting, most_locals, most_locals_of_all}
 use Rattle.ctw_ops.specs.Segments.{nested}
 use Rattle.ctw_ops.specs.Tree as tree
 use Rattle.ctw_ops.specs.Tree.{Module, TypeEntry, Import, Extern, Function}
@@ -26,7 +27,8 @@ over b what limit = cond b (excess what limit ∷ []) []
 
 abbrev pub entry_excess : WideEntry → List Excess
 entry_excess e =
-    over (nat_lt 1000 (length e.type.params)) Params 1000 ++ over (nat_lt 1 (length e.type.results)) Results 1
+    over (nat_lt most_params (length e.type.params)) Params most_params
+    ++ over (nat_lt most_results (length e.type.results)) Results most_results
 
 abbrev pub is_table : Import Label → Bool
 is_table i = of i.kind
@@ -52,10 +54,11 @@ import_excess table memory (i ∷ is) =
 abbrev pub count_if : {X : Type 0} → (X → Bool) → List X → ℕ
 count_if p xs = length (filter p xs)
 
--- blocks that are open behind an opcode, of 4,096 at most
+-- blocks that are open behind an opcode
 abbrev pub nesting_excess : (depth : ℕ) → List (ops.Op Label) → List Excess
 nesting_excess depth [] = []
-nesting_excess depth (ops.Opens shape t ∷ os) = over (nat_le 4096 depth) Nesting 4096 ++ nesting_excess (suc depth) os
+nesting_excess depth (ops.Opens shape t ∷ os) =
+    over (nat_le most_nesting depth) Nesting most_nesting ++ nesting_excess (suc depth) os
 nesting_excess zero (ops.Closes ByEnd ∷ os) = nesting_excess zero os
 nesting_excess (suc depth) (ops.Closes ByEnd ∷ os) = nesting_excess depth os
 nesting_excess depth (_ ∷ os) = nesting_excess depth os
@@ -77,7 +80,8 @@ runs (t ∷ ts) = longer (begins t ts) (runs ts)
 abbrev pub locals_excess : (mine before : ℕ) → List ℕ → List Excess
 locals_excess mine before [] = []
 locals_excess mine before (n ∷ ns) =
-    over (nat_lt 50000 (mine + n)) Locals 50000 ++ over (nat_lt 1000000 (before + mine + n)) Locals 1000000
+    over (nat_lt most_locals (mine + n)) Locals most_locals
+    ++ over (nat_lt most_locals_of_all (before + mine + n)) Locals most_locals_of_all
     ++ locals_excess (mine + n) before ns
 
 abbrev pub function_excess : (before : ℕ) → List WideFunction → List Excess
