@@ -6,6 +6,7 @@ use Rattle.ctw_ops.specs.declared.types.ExternTag.TheVariants as tag
 use Rattle.ctw_ops.specs.declared.types.Label.{Label}
 use Rattle.ctw_ops.specs.declared.types.Label.TheVariants.{Public, Secret}
 use Rattle.ctw_ops.specs.Types.{ValueType, bit_width}
+use Rattle.ctw_ops.specs.Limits.{most_steps}
 use Rattle.ctw_script.specs.declared.moves.Arg.{Arg}
 use Rattle.ctw_script.specs.declared.moves.Arg.TheVariants.{Number, Vault}
 use Rattle.ctw_script.specs.declared.moves.Move.{Move}
@@ -65,7 +66,7 @@ module _ (set : ModuleSet) (s : State) where
   Applies (Begin slot part export args) VaultShort =
       (fn : FunctionInstance) × IsFunctionOf part export fn × (length s.vault < args_take fn.type.params args)
   Applies (Turn slot steps) SlotFree = in_slot s slot ≡ None
-  Applies (Turn slot steps) TurnTooLong = 1000000 < steps
+  Applies (Turn slot steps) TurnTooLong = most_steps < steps
   Applies (Leave slot) SlotFree = in_slot s slot ≡ None
   Applies (Poke part memory at bytes) NoMemoryExport = (m : Memory) → IsMemoryOf part memory m → ⊥
   Applies (Poke part memory at bytes) Bounds = PassesEnd part memory (at + length bytes)
