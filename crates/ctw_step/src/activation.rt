@@ -102,7 +102,8 @@ pub fn step(set: &LinkedSet, store: &mut Store, act: &mut Activation) -> Result<
     ensures does { (shape : Shape) (last : Option (ValueType Label)) (a : Call)
         → Standing set.now store.old.storage act.old shape last a
         → IfOk result (λ r.
-        Tells (code_in set.now) store.new.storage act.new r (step_of (instances set.now) store.old.storage a).answer (step_of (instances set.now) store.old.storage a).event) }
+        Tells (code_in set.now) store.new.storage act.new r (step_of (instances set.now) store.old.storage a).answer
+        (step_of (instances set.now) store.old.storage a).event) }
     ensures ends { IfOk result (KeepsAtEnd store.old.storage store.new.storage) }
     // It stays sound.
     ensures sound { (shape : Shape) (last : Option (ValueType Label)) (a : Call)

@@ -80,9 +80,11 @@ fn turn_steps(
     ensures does { (shape : Shape) (last : Option (ValueType Label)) (a : Call)
         → Standing set.now store.old.storage act.old shape last a
         → MatchResult result (λ r.
-        TurnTells set.now shape last n (turn_of n (instances set.now) store.old.storage a) r store.new.storage act.new events.old.items events.new.items)
+        TurnTells set.now shape last n (turn_of n (instances set.now) store.old.storage a) r
+        store.new.storage act.new events.old.items events.new.items)
         (λ e. (e.steps ≤ n)
-        × GoesOn set.now shape last (turn_of e.steps (instances set.now) store.old.storage a) e.steps store.new.storage act.new events.old.items events.new.items) }
+        × GoesOn set.now shape last (turn_of e.steps (instances set.now) store.old.storage a) e.steps
+        store.new.storage act.new events.old.items events.new.items) }
     ensures made { KeepsMade store.old.made store.new.made }
 {
     if !make_room(events, n) {
@@ -131,9 +133,11 @@ pub fn turn(
     ensures does { (shape : Shape) (last : Option (ValueType Label)) (a : Call)
         → Standing set.now store.old.storage act.old shape last a
         → MatchResult result (λ r.
-        TurnTells set.now shape last n (turn_of n (instances set.now) store.old.storage a) r store.new.storage act.new events.old.items events.new.items)
+        TurnTells set.now shape last n (turn_of n (instances set.now) store.old.storage a) r
+        store.new.storage act.new events.old.items events.new.items)
         (λ e. (e.steps ≤ n)
-        × GoesOn set.now shape last (turn_of e.steps (instances set.now) store.old.storage a) e.steps store.new.storage act.new events.old.items events.new.items) }
+        × GoesOn set.now shape last (turn_of e.steps (instances set.now) store.old.storage a) e.steps
+        store.new.storage act.new events.old.items events.new.items) }
     // The store stays sound, and with it each other call over it.
     ensures sound { (shape : Shape) (last : Option (ValueType Label)) (a : Call)
         → Standing set.now store.old.storage act.old shape last a → SoundStorage shape store.new.storage }
@@ -143,12 +147,15 @@ pub fn turn(
         → (t : Storage) (b : Call) → Agree store.old.storage a t b
         → (turn_of n (instances set.now) store.old.storage a).releases ≡ (turn_of n (instances set.now) t b).releases
         → IfOk result (λ r.
-        TurnSeenAs set.now n r store.new.storage act.new events.old.items events.new.items (turn_of n (instances set.now) t b)) }
+        TurnSeenAs set.now n r store.new.storage act.new events.old.items events.new.items
+        (turn_of n (instances set.now) t b)) }
     // The erased state takes the same turn.
     ensures erased { (shape : Shape) (last : Option (ValueType Label)) (a : Call)
         → Standing set.now store.old.storage act.old shape last a
         → IfOk result (λ r.
-        TurnErasedAs set.now n r store.new.storage act.new events.old.items events.new.items (turn_of n (erase_functions (instances set.now)) (erase_storage store.old.storage) (erase_activation (instances set.now) a))) }
+        TurnErasedAs set.now n r store.new.storage act.new events.old.items events.new.items
+        (turn_of n (erase_functions (instances set.now)) (erase_storage store.old.storage)
+        (erase_activation (instances set.now) a))) }
     ensures made { KeepsMade store.old.made store.new.made }
 {
     turn_steps(set, store, act, n, events)
