@@ -176,7 +176,8 @@ fn unbalanced(place: u32) -> BuildFault
 
 /// Reads one instruction of a body, and notes it.
 fn step(nesting: &mut Nesting, marks: &mut Vec<Mark>, cursor: &mut Cursor) -> Result<(), BuildFault>
-    ensures { Steps result nesting.old nesting.new marks.old.items marks.new.items cursor.old cursor.new (step_at nesting.old cursor.old) }
+    ensures { Steps result nesting.old nesting.new marks.old.items marks.new.items cursor.old cursor.new
+        (step_at nesting.old cursor.old) }
 {
     let place = cursor.place();
     match nesting.step(cursor) {

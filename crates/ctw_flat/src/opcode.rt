@@ -283,6 +283,7 @@ pub fn secret_form_of(byte: u8) -> Result<Form, CodeKind>
 }
 
 /// The opcode of an instruction with nothing behind it.
+#[inline(always)]
 fn bare_opcode_of(bare: Bare) -> u8
     ensures { result ≡ bare_opcode bare }
 {
@@ -301,6 +302,7 @@ fn bare_opcode_of(bare: Bare) -> u8
 }
 
 /// The opcode that opens a block.
+#[inline(always)]
 fn opener_opcode_of(opener: Opener) -> u8
     ensures { result ≡ opener_opcode opener }
 {
@@ -312,6 +314,7 @@ fn opener_opcode_of(opener: Opener) -> u8
 }
 
 /// The opcode of an instruction with an index behind it.
+#[inline(always)]
 fn indexed_opcode_of(indexed: Indexed) -> u8
     ensures { result ≡ indexed_opcode indexed }
 {
@@ -328,6 +331,7 @@ fn indexed_opcode_of(indexed: Indexed) -> u8
 }
 
 /// The opcode of a load.
+#[inline(always)]
 fn load_opcode_of(width: Width, bytes: u8, signed: bool) -> u8
     ensures { result ≡ load_opcode width bytes signed }
 {
@@ -348,6 +352,7 @@ fn load_opcode_of(width: Width, bytes: u8, signed: bool) -> u8
 }
 
 /// The opcode of a store.
+#[inline(always)]
 fn store_opcode_of(width: Width, bytes: u8) -> u8
     ensures { result ≡ store_opcode width bytes }
 {
@@ -363,6 +368,7 @@ fn store_opcode_of(width: Width, bytes: u8) -> u8
 }
 
 /// The opcode of a load or a store.
+#[inline(always)]
 fn access_opcode_of(access: Access) -> u8
     ensures { result ≡ access_opcode access }
 {
@@ -377,6 +383,7 @@ fn access_opcode_of(access: Access) -> u8
 }
 
 /// The opcode of a constant.
+#[inline(always)]
 fn const_opcode_of(width: Width) -> u8
     ensures { result ≡ const_opcode width }
 {
@@ -387,6 +394,7 @@ fn const_opcode_of(width: Width) -> u8
 }
 
 /// The opcode of a form: the byte that stands for it, where it is an opcode's.
+#[inline(always)]
 pub fn opcode_of(form: Form) -> u8
     ensures { result ≡ opcode_byte form }
 {

@@ -1,4 +1,4 @@
-// Graphs whose links have a rule: which nodes are reached from a start, and the least shortest path to a goal.
+//! Graphs whose links have a rule: which nodes are reached from a start, and the least shortest path to a goal.
 #![tactic(auto)]
 
 mod graph;

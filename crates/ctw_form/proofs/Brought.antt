@@ -19,7 +19,7 @@ use Rattle.ctw_form.specs.declared.table.SectionKind.{SectionKind}
 use Rattle.ctw_form.specs.declared.table.SectionKind.TheVariants as kind
 use Rattle.ctw_form.specs.declared.table.Held.{Held}
 use Rattle.ctw_form.specs.declared.sections.Seen.{Seen}
-use Rattle.ctw_ops.specs.Limits.{most_params, most_locals}
+use Rattle.ctw_ops.specs.Limits.{most_params, most_locals, most_locals_of_all}
 use Rattle.ctw_form.specs.Tables.{section_kind, entry_form, rising}
 use Rattle.ctw_form.specs.Sections.{Group, Entry, Section, CustomSection, TypeSection, ImportSection, FunctionSection, TableSection, MemorySection, GlobalSection, ExportSection, StartSection, ElementSection, CodeSection, DataSection, locals_of, held_after, nothing_seen, seen_after, Parts, no_parts, with_section}
 use Rattle.ctw_form.specs.Spelled.{Count, count_after, IsTypeEntry, IsSignature, EntryBehind, entry_of, IsImport, IsGlobal, IsExport, IsElement, IsSegment, IsVariable, IsValueType, IsGroup, IsEntry, IsCodes, all_after, Insides, IsSection, IsFile, File}
@@ -163,6 +163,36 @@ entry_coded ct all text e m =
     let body : IsLimitedBody w.2 k.0.1 = k.1.1.0 in
     subst IsCoded k.2 (record { spelled = subst (λ (t : List ℕ). IsLimitedBody t k.0.1) k.1.0 body; few = few })
 
+-- the declared locals of an entry
+abbrev pub local_count : Entry → ℕ
+local_count e = length (locals_of e.groups)
+
+groups_all : (ct : Bool) (n : ℕ) (c : Count) (text : List ℕ) (l : List Group) → TimesFrom (IsGroup ct) count_after n c text l → c.all ≤ most_locals_of_all → c.all + length (locals_of l) ≤ most_locals_of_all
+groups_all ct zero c text l m le = subst (λ (z : List Group). c.all + length (locals_of z) ≤ most_locals_of_all) m.1 (omega arith)
+groups_all ct (suc n) c text l m le =
+    let r = m.4 in
+    let g : Group = m.0 in
+    let room : c.all + m.3.0 ≤ most_locals_of_all = leb-true (c.all + m.3.0) most_locals_of_all m.3.3.1 in
+    let same : m.3.0 ≡ g.count = ap (λ (z : Group). z.count) m.3.4.2 in
+    let others = groups_all ct n (count_after c g) r.1 r.0 r.3 (omega (arith, room, same)) in
+    let here : c.all + length (locals_of (g ∷ r.0)) ≤ most_locals_of_all = omega (arith, others, length-append (replicate g.count g.type) (locals_of r.0), length-replicate g.count g.type) in
+    subst (λ (z : List Group). c.all + length (locals_of z) ≤ most_locals_of_all) r.4.1 here
+
+entry_all : (ct : Bool) (all : ℕ) (text : List ℕ) (e : Entry) → IsEntry ct all text e → all ≤ most_locals_of_all → all + local_count e ≤ most_locals_of_all
+entry_all ct all text e m le =
+    let w = m.4.1 in
+    let g = w.3 in
+    let sum : all + length (locals_of w.0) ≤ most_locals_of_all = groups_all ct g.0 (record { own = 0; all = all }) g.2 w.0 g.4 le in
+    subst (λ (z : Entry). all + local_count z ≤ most_locals_of_all) w.4.2 sum
+
+entries_all : (ct : Bool) (n all : ℕ) (text : List ℕ) (l : List Entry) → TimesFrom (IsEntry ct) all_after n all text l → all ≤ most_locals_of_all → all + weight local_count l ≤ most_locals_of_all
+entries_all ct zero all text l m le = subst (λ (z : List Entry). all + weight local_count z ≤ most_locals_of_all) m.1 (omega arith)
+entries_all ct (suc n) all text l m le =
+    let r = m.4 in
+    let others = entries_all ct n (all_after all m.0) r.1 r.0 r.3 (entry_all ct all m.1 m.0 m.3 le) in
+    let here : all + weight local_count (m.0 ∷ r.0) ≤ most_locals_of_all = omega (arith, others) in
+    subst (λ (z : List Entry). all + weight local_count z ≤ most_locals_of_all) r.4.1 here
+
 -- ---- sections one after another
 
 abbrev pub size_of : Parts → ℕ
@@ -173,6 +203,7 @@ pub record Brought (seen : Seen) (p : Parts) (n : ℕ) : Type 0 where
   pub size : size_of p ≤ n
   pub params : Every HasFewParams p.types
   pub coded : Every IsCoded p.entries
+  pub locals : weight local_count p.entries ≤ most_locals_of_all
   pub fresh : seen.last < 10 → (p.entries ≡ []) × (seen.owed ≡ length p.uses)
   pub paired : length p.entries + seen.owed ≡ length p.uses
 
@@ -231,6 +262,7 @@ brought_next ct seen p n kind.Custom text s up m b =
       size = omega (arith, c, b.size, length-append p.customs (record { place = p.place; name = m.0; bytes = m.4.0 } ∷ []));
       params = b.params;
       coded = b.coded;
+      locals = b.locals;
       fresh = b.fresh;
       paired = b.paired;
     }) c
@@ -241,6 +273,7 @@ brought_next ct seen p n kind.Types text s up m b =
       size = omega (arith, c, b.size);
       params = times_from_every (λ u. IsTypeEntry ct) stays HasFewParams (λ u. entry_few ct) m.1.0 tt m.1.2 m.0 m.1.4;
       coded = b.coded;
+      locals = b.locals;
       fresh = λ h. b.fresh (omega (arith, up));
       paired = b.paired;
     }) c
@@ -251,6 +284,7 @@ brought_next ct seen p n kind.Imports text s up m b =
       size = omega (arith, c, b.size);
       params = b.params;
       coded = b.coded;
+      locals = b.locals;
       fresh = λ h. b.fresh (omega (arith, up));
       paired = b.paired;
     }) c
@@ -261,6 +295,7 @@ brought_next ct seen p n kind.Functions text s up m b =
       size = omega (arith, c, b.size);
       params = b.params;
       coded = b.coded;
+      locals = b.locals;
       fresh = λ h. ((b.fresh (omega (arith, up))).0, refl);
       paired = omega (arith, ap length (b.fresh (omega (arith, up))).0);
     }) c
@@ -271,6 +306,7 @@ brought_next ct seen p n kind.Tables text s up m b =
       size = omega (arith, c, b.size);
       params = b.params;
       coded = b.coded;
+      locals = b.locals;
       fresh = λ h. b.fresh (omega (arith, up));
       paired = b.paired;
     }) c
@@ -281,6 +317,7 @@ brought_next ct seen p n kind.Memories text s up m b =
       size = omega (arith, c, b.size);
       params = b.params;
       coded = b.coded;
+      locals = b.locals;
       fresh = λ h. b.fresh (omega (arith, up));
       paired = b.paired;
     }) c
@@ -291,6 +328,7 @@ brought_next ct seen p n kind.Globals text s up m b =
       size = omega (arith, c, b.size);
       params = b.params;
       coded = b.coded;
+      locals = b.locals;
       fresh = λ h. b.fresh (omega (arith, up));
       paired = b.paired;
     }) c
@@ -301,6 +339,7 @@ brought_next ct seen p n kind.Exports text s up m b =
       size = omega (arith, c, b.size);
       params = b.params;
       coded = b.coded;
+      locals = b.locals;
       fresh = λ h. b.fresh (omega (arith, up));
       paired = b.paired;
     }) c
@@ -311,6 +350,7 @@ brought_next ct seen p n kind.Start text s up m b =
       size = omega (arith, c, b.size);
       params = b.params;
       coded = b.coded;
+      locals = b.locals;
       fresh = λ h. b.fresh (omega (arith, up));
       paired = b.paired;
     }) c
@@ -321,6 +361,7 @@ brought_next ct seen p n kind.Elements text s up m b =
       size = omega (arith, c, b.size);
       params = b.params;
       coded = b.coded;
+      locals = b.locals;
       fresh = λ h. b.fresh (omega (arith, up));
       paired = b.paired;
     }) c
@@ -331,6 +372,7 @@ brought_next ct seen p n kind.Codes text s up m b =
       size = omega (arith, c, b.size);
       params = b.params;
       coded = times_from_every (IsEntry ct) all_after IsCoded (entry_coded ct) m.1.0 0 m.1.2 m.0 m.1.4;
+      locals = let all : 0 + weight local_count m.0 ≤ most_locals_of_all = entries_all ct m.1.0 0 m.1.2 m.0 m.1.4 (omega arith) in omega arith;
       fresh = λ h. absurd (omega (arith, h));
       paired = omega (arith, (b.fresh (omega (arith, up))).1, times_from_count (IsEntry ct) all_after m.1.0 0 m.1.2 m.0 m.1.4, eqb-true m.1.0 seen.owed m.1.3.1);
     }) c
@@ -341,6 +383,7 @@ brought_next ct seen p n kind.Segments text s up m b =
       size = omega (arith, c, b.size);
       params = b.params;
       coded = b.coded;
+      locals = b.locals;
       fresh = λ h. absurd (omega (arith, h));
       paired = b.paired;
     }) c
@@ -353,13 +396,14 @@ section_brings ct seen p n text s m b =
       size = omega (arith, more.size, ap length m.5, ap length w.5, length-append m.1 m.2, length-append w.1 w.2);
       params = more.params;
       coded = more.coded;
+      locals = more.locals;
       fresh = more.fresh;
       paired = more.paired;
     }
 
 sections_bring : (ct : Bool) (seen : Seen) (p : Parts) (n : ℕ) (text : List ℕ) (l : List Section) → Items (IsSection ct) seen_after seen text l → Brought seen p n
     → Brought (state_after seen_after seen l) (state_after with_section p l) (n + length text)
-sections_bring ct seen p n text [] m b = record { size = omega (arith, b.size); params = b.params; coded = b.coded; fresh = b.fresh; paired = b.paired }
+sections_bring ct seen p n text [] m b = record { size = omega (arith, b.size); params = b.params; coded = b.coded; locals = b.locals; fresh = b.fresh; paired = b.paired }
 sections_bring ct seen p n text (s ∷ l) m b =
     let one = section_brings ct seen p n m.0 s m.2 b in
     let all = sections_bring ct (seen_after seen s) (with_section p s) (n + length m.0) m.1 l m.3 one in
@@ -367,6 +411,7 @@ sections_bring ct seen p n text (s ∷ l) m b =
       size = omega (arith, all.size, ap length m.4, length-append m.0 m.1);
       params = all.params;
       coded = all.coded;
+      locals = all.locals;
       fresh = all.fresh;
       paired = all.paired;
     }
@@ -377,13 +422,14 @@ file_brings bytes file m =
     let v = m.4 in
     let w = v.4 in
     let sections : w.0 ≡ file.sections = ap (λ (f : File). f.sections) w.2 in
-    let start : Brought nothing_seen no_parts 0 = record { size = omega arith; params = tt; coded = tt; fresh = λ h. (refl, refl); paired = omega arith } in
+    let start : Brought nothing_seen no_parts 0 = record { size = omega arith; params = tt; coded = tt; locals = omega arith; fresh = λ h. (refl, refl); paired = omega arith } in
     let all = sections_bring v.0 nothing_seen no_parts 0 v.2 w.0 w.1 start in
     subst (λ (l : List Section). Brought (state_after seen_after nothing_seen l) (state_after with_section no_parts l) (length bytes)) sections
     (record {
       size = omega (arith, all.size, ap length m.5, ap length v.5, length-append m.1 m.2, length-append v.1 v.2);
       params = all.params;
       coded = all.coded;
+      locals = all.locals;
       fresh = all.fresh;
       paired = all.paired;
     })

@@ -9,6 +9,7 @@ use Rattle.ctw_ops.specs.Code.{Code, Op, opcodes}
 use Rattle.ctw_ops.specs.Segments.{nested}
 use Rattle.ctw_ops.proofs.Segments.{nested_opcodes, opcodes_nested}
 use Rattle.ctw_leb.specs.Grammar.{Grammar, Items, TimesFrom, Passing, Mapped, ◌>>=◌}
+use Rattle.ctw_leb.specs.Input.{Input}
 use Rattle.ctw_leb.specs.Numbers.{IsU32}
 use Rattle.ctw_leb.specs.Reading.{WholeReader, Exact, Whole, items, faulted, refused, times_from, mapped}
 use Rattle.ctw_leb.proofs.Exact.{ok_is, err_ok, chain_ok}
@@ -91,6 +92,32 @@ exact_form_step false (b ∷ outer) = record {
       ap (λ (l : Option ℕ). unless_label l (refused of_code (step_at (b ∷ outer) (record { at = at; rest = text ++ rest })))) (no_label b outer at text rest op m.0 m.1)
       ∙ (exact_any_step (b ∷ outer)).complete text rest at op m.0;
 }
+
+-- an opcode that fits is read as one of any module is
+pub step_fits : (ct : Bool) (around : List Bool) (i o : Input) (op : Op Label) → step_at around i ≡ Ok (op, o) → fits ct op ≡ true → form_step_at ct around i ≡ Ok (op, o)
+unfolding form_step_at
+step_fits true around i o op e h = rw e refl
+step_fits false [] i o op e h = let s = (exact_step []).sound i op o e in absurd (not_both s.1.1)
+  where
+    not_both : false ≡ true → ⊥
+    not_both q = cc
+step_fits false (b ∷ outer) i o op e h =
+    let s = (exact_step (b ∷ outer)).sound i op o e in
+    let none : label_at false (b ∷ outer) i ≡ None =
+    ap (λ (l : List ℕ). label_at false (b ∷ outer) (record { at = i.at; rest = l })) s.2 ∙ no_label b outer i.at s.0 o.rest op s.1 h in
+    rw none (ap (refused of_code) e)
+
+-- an opcode that isn't a plain module's has a label in front
+pub step_labelled : (around : List Bool) (i o : Input) (op : Op Label) → step_at around i ≡ Ok (op, o) → is_plain_op op ≡ false → (place : ℕ) × (label_place i.at i.rest ≡ Some place)
+step_labelled around i o op e h =
+    let s = (exact_step around).sound i op o e in
+    elim (op_marked i.at s.0 o.rest op s.1.0) [
+      | inl m ↦ absurd (not_both (sym h ∙ m.0))
+      | inr m ↦ (m.1, ap (label_place i.at) s.2 ∙ m.2)
+    ]
+  where
+    not_both : false ≡ true → ⊥
+    not_both q = cc
 
 pub form_step_filled : (ct : Bool) (around : List Bool) → IsFilled (IsFormStep ct around)
 form_step_filled ct around op m = step_filled around op m.0

@@ -107,7 +107,9 @@ constant_form ct byte =
 -- the opcode behind the prefix of a constant expression
 unfoldable pub secret_constant : ℕ → Result Width FormKind
 secret_constant byte =
-    if byte == const_opcode W32 then Ok W32 else if byte == const_opcode W64 then Ok W64 else Err (no_constant true byte)
+    if byte == const_opcode W32 then Ok W32
+    else if byte == const_opcode W64 then Ok W64
+    else Err (no_constant true byte)
 
 -- the `end` of a constant expression
 unfoldable pub constant_end : Bool → ℕ → Result (Unit {0}) FormKind

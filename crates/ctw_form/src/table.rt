@@ -2,7 +2,7 @@ ghost use Rattle.std.specs.Prelude.{◌≡◌};
 ghost use Rattle.ctw_form.specs.Tables.{value_type, entry_form, trust_byte, table_byte, limits_form, memory_form, mutability, extern_kind, import_kind, no_constant, constant_form, secret_constant, constant_end, section_kind};
 
 use crate::fault::FormKind;
-use ctw_flat::is_float_opcode;
+use ctw_flat::{Bare, Form, Indexed, SECRET_PREFIX, is_float_opcode, opcode_of, type_of_byte};
 use ctw_ops::{ExternTag, Label, Trust, ValType, What, Width};
 
 /// How a type entry goes on behind its first byte.
@@ -77,16 +77,14 @@ pub struct Held {
 pub(crate) fn value_type_of(ct: bool, byte: u8) -> Result<ValType, FormKind>
     ensures { result ≡ value_type ct byte }
 {
-    let (width, label) = match byte {
-        0x7F => (Width::W32, Label::Public),
-        0x7E => (Width::W64, Label::Public),
-        0x7A if ct => (Width::W32, Label::Secret),
-        0x79 if ct => (Width::W64, Label::Secret),
-        0x79 | 0x7A => return Err(FormKind::LabelsInPlain),
-        0x7C | 0x7D => return Err(FormKind::Floats),
-        _ => return Err(FormKind::BadType),
-    };
-    Ok(ValType { width, label })
+    match type_of_byte(byte) {
+        Some(t) if ct || t.label == Label::Public => Ok(t),
+        Some(_) => Err(FormKind::LabelsInPlain),
+        None => match byte {
+            0x7C | 0x7D => Err(FormKind::Floats),
+            _ => Err(FormKind::BadType),
+        },
+    }
 }
 
 /// How a type entry goes on behind a byte.
@@ -217,12 +215,16 @@ fn no_constant_of(ct: bool, byte: u8) -> FormKind
 pub(crate) fn constant_form_of(ct: bool, byte: u8) -> Result<ConstantForm, FormKind>
     ensures { result ≡ constant_form ct byte }
 {
-    match byte {
-        0x41 => Ok(ConstantForm::Number(Width::W32)),
-        0x42 => Ok(ConstantForm::Number(Width::W64)),
-        0x23 => Ok(ConstantForm::Global),
-        0xE0 if ct => Ok(ConstantForm::Prefix),
-        _ => Err(no_constant_of(ct, byte)),
+    if byte == opcode_of(Form::Const(Width::W32)) {
+        Ok(ConstantForm::Number(Width::W32))
+    } else if byte == opcode_of(Form::Const(Width::W64)) {
+        Ok(ConstantForm::Number(Width::W64))
+    } else if byte == opcode_of(Form::Indexed(Indexed::GlobalGet)) {
+        Ok(ConstantForm::Global)
+    } else if ct && byte == SECRET_PREFIX {
+        Ok(ConstantForm::Prefix)
+    } else {
+        Err(no_constant_of(ct, byte))
     }
 }
 
@@ -231,10 +233,12 @@ pub(crate) fn constant_form_of(ct: bool, byte: u8) -> Result<ConstantForm, FormK
 pub(crate) fn secret_constant_of(byte: u8) -> Result<Width, FormKind>
     ensures { result ≡ secret_constant byte }
 {
-    match byte {
-        0x41 => Ok(Width::W32),
-        0x42 => Ok(Width::W64),
-        _ => Err(no_constant_of(true, byte)),
+    if byte == opcode_of(Form::Const(Width::W32)) {
+        Ok(Width::W32)
+    } else if byte == opcode_of(Form::Const(Width::W64)) {
+        Ok(Width::W64)
+    } else {
+        Err(no_constant_of(true, byte))
     }
 }
 
@@ -243,9 +247,10 @@ pub(crate) fn secret_constant_of(byte: u8) -> Result<Width, FormKind>
 pub(crate) fn constant_end_of(ct: bool, byte: u8) -> Result<(), FormKind>
     ensures { result ≡ constant_end ct byte }
 {
-    match byte {
-        0x0B => Ok(()),
-        _ => Err(no_constant_of(ct, byte)),
+    if byte == opcode_of(Form::Bare(Bare::End)) {
+        Ok(())
+    } else {
+        Err(no_constant_of(ct, byte))
     }
 }
 

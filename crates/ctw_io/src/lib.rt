@@ -1,4 +1,4 @@
-// What the program reads from and writes to: a shelf of files and a sink for text.
+//! What the program reads from and writes to: a shelf of files and a sink for text.
 #![tactic(auto)]
 
 ghost use Rattle.std.specs.Prelude.{◌≡◌, ◌≤◌, ◌<◌, ℕ, List, length, take, Option, Some, IfOk, OnOk, OnErr, IsOk, IsErrOf};

@@ -18,7 +18,8 @@ use Rattle.ctw_semantics.specs.Modules.{instance_of}
 use Rattle.ctw_semantics.specs.Erased.{erase_instance, erase_functions}
 use Rattle.ctw_semantics.proofs.Modules.{instance_erased}
 use Rattle.ctw_link.specs.Sets.{NamedModule, ModuleSet, one_or_none, defined_in}
-use Rattle.ctw_link.specs.Numbers.{LinkedModule, is_named, exported_number, import_number, tag_of, same_tag, number_if, defined_before, numbers_behind, linked_module, with_linked, linked}
+use Rattle.ctw_ops.specs.Equal.{same_tag}
+use Rattle.ctw_link.specs.Numbers.{LinkedModule, is_named, exported_number, import_number, tag_of, number_if, defined_before, numbers_behind, linked_module, with_linked, linked}
 use Rattle.ctw_link.specs.SetInstances.{module_instance, instances_in, set_instances, AllValid}
 use Rattle.ctw_launch.specs.ErasedSets.{erase_named, erase_set}
 use Rattle.ctw_launch.proofs.Parts.{valid_linked}

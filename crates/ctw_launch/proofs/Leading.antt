@@ -18,7 +18,8 @@ use Rattle.ctw_ops.specs.ExternType as external
 use Rattle.ctw_module.specs.Lookup.{export_in}
 use Rattle.ctw_link.specs.Sets.{NamedModule, ModuleSet, one_or_none}
 use Rattle.ctw_link.specs.Externals.{wanted, declared_type, offered, has_name, Meets, IsMet}
-use Rattle.ctw_link.specs.Numbers.{LinkedModule, numbers_of, is_named, exported_number, import_number, tag_of, same_tag, number_if, defined_before, linked_module}
+use Rattle.ctw_ops.specs.Equal.{same_tag}
+use Rattle.ctw_link.specs.Numbers.{LinkedModule, numbers_of, is_named, exported_number, import_number, tag_of, number_if, defined_before, linked_module}
 use Rattle.ctw_link.specs.SetInstances.{LeadsToFunction, LeadsToGlobal, LeadsToMemory, LeadsToTable, LeadsTo}
 use Rattle.ctw_link.proofs.LinkedFronts.{bare}
 use Rattle.ctw_link.proofs.ValidParts.{exported}

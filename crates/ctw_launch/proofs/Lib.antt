@@ -19,6 +19,5 @@ pub mod ErasedMatch
 pub mod ErasedLoad
 pub mod ErasedLaunch
 pub mod PartSets
-pub mod OwnedInstances
 pub mod Untrusted
 mod Examples

@@ -6,6 +6,7 @@ use Rattle.std.proofs.lemmas.List.Sums.{sum_by-cons}
 use Rattle.std.proofs.lemmas.List.Concat.{length-flat_map}
 use Rattle.std.proofs.lemmas.Option.{slice_get_within, same_Some}
 use Rattle.ctw_form.proofs.Params.{slice_get_left}
+use Rattle.ctw_link.proofs.Lists.{skipped}
 
 pub paired_append : {A B : Type 0} (R : A → B → Type 0) (xs more : List A) (ys others : List B) → AllZip R xs ys → AllZip R more others → AllZip R (xs ++ more) (ys ++ others)
 paired_append R [] more [] others p q = q
@@ -33,12 +34,6 @@ paired_range R f (b ∷ bs) start h =
     (subst (R (f b)) first (h 0 b refl), paired_range R f bs (start + 1) (λ j c e. let next : suc j + start ≡ j + (start + 1) = omega arith in subst (R (f c)) next (h (suc j) c e)))
 
 -- ---- pieces
-
--- behind a front
-pub skipped : {A : Type 0} (xs ys : List A) (k n : ℕ) → n ≡ k + length xs → slice_get (xs ++ ys) n ≡ slice_get ys k
-skipped {A} [] ys k n e = let q : n ≡ k = omega (arith, e) in ap (λ (m : ℕ). slice_get ys m) q
-skipped (x ∷ xs) ys k zero e = absurd (omega (arith, e))
-skipped (x ∷ xs) ys k (suc n) e = skipped xs ys k n (omega (arith, e))
 
 pub piece_at : {A B : Type 0} (f : A → List B) (front : List A) (a : A) (behind : List A) (j n : ℕ) (b : B) → n ≡ j + length (flat_map f front) → slice_get (f a) j ≡ Some b → slice_get (flat_map f (front ++ a ∷ behind)) n ≡ Some b
 piece_at f [] a behind j n b q e =

@@ -6,7 +6,7 @@ use Rattle.std.proofs.lemmas.Option.{slice_get-map, slice_get-get_or, slice_get_
 use Rattle.std.proofs.lemmas.List.Elements.{All-nil, All-cons, All-append, All-head, All-tail}
 use Rattle.ctw_ops.proofs.Lists.{contains_get}
 use Rattle.ctw_form.proofs.Params.{slice_get_left}
-use Rattle.ctw_launch.proofs.Pairs.{skipped}
+use Rattle.ctw_link.proofs.Lists.{skipped}
 
 abbrev pub In : {A : Type 0} → List A → A → Type 0
 In xs x = (i : ℕ) × (slice_get xs i ≡ Some x)

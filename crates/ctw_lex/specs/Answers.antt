@@ -2,8 +2,6 @@
 use Rattle.std.specs.Prelude.{◌≡◌, ℕ, ◌+◌, ◌<◌, ◌≤◌, List, All, length, take, slice_range}
 use Rattle.std.specs.List.{AllPairs}
 use Rattle.ctw_lex.specs.declared.LexPlace.{LexPlace}
-use Rattle.ctw_lex.specs.declared.LexFault.{LexFault}
-use Rattle.ctw_lex.specs.declared.LexFault.TheVariants.{Bad, NoMemory}
 use Rattle.ctw_lex.specs.Lexeme.{Lexeme}
 use Rattle.ctw_lex.specs.Grammar.{IsTokens, line_feeds}
 use Rattle.ctw_lex.specs.Faults.{IsFirstFault}
@@ -25,11 +23,6 @@ pub record HasFault (text : List ℕ) (place : LexPlace) : Type 0 where
   pub only : (other : LexPlace) → IsFirstFault 0 1 text other → other ≡ place
   pub listless : (tokens : List Lexeme) → ¬ (IsTokens 0 1 text tokens)
   pub placed : IsPlaced text place
-
--- the fault is the text's, where it isn't want of memory
-abbrev pub IsFaultIn : List ℕ → LexFault → Type 0
-IsFaultIn text (Bad place) = HasFault text place
-IsFaultIn text NoMemory = Unit {0}
 
 -- a token is the slice of the text at its span, which isn't empty; its line counts the line feeds before it
 pub record IsSlice (text : List ℕ) (t : Lexeme) : Type 0 where

@@ -1,5 +1,5 @@
 -- The tokens of a text, or its first fault.
-use Rattle.std.specs.Prelude.{◌≡◌, ℕ, zero, suc, ◌+◌, ◌==◌, List, [], ◌∷◌, Result, Ok, Err, take, if◌then◌else◌}
+use Rattle.std.specs.Prelude.{ℕ, zero, suc, ◌+◌, ◌==◌, List, [], ◌∷◌, Option, Some, None, Result, Ok, Err, take, if◌then◌else◌}
 use Rattle.ctw_lex.specs.declared.items.Item.{Item}
 use Rattle.ctw_lex.specs.declared.items.Item.TheVariants.{Gap, Spelled, Faulty}
 use Rattle.ctw_lex.specs.declared.LexPlace.{LexPlace}
@@ -27,7 +27,7 @@ tokens_from zero at line (b ∷ bs) =
 abbrev pub tokens_of : List ℕ → Result (List Lexeme) LexPlace
 tokens_of text = tokens_from 0 0 1 text
 
--- the fault is the text's, where it isn't want of memory
-abbrev pub IsFaultOf : LexFault → Result (List Lexeme) LexPlace → Type 0
-IsFaultOf (Bad place) read = read ≡ Err place
-IsFaultOf NoMemory read = Unit {0}
+-- the place that a fault of a text tells; none where memory ran out
+abbrev pub place_of : LexFault → Option LexPlace
+place_of (Bad place) = Some place
+place_of NoMemory = None

@@ -1,13 +1,13 @@
 //! The tokens of a text: parentheses, atoms and strings.
 #![tactic(auto)]
 
-ghost use Rattle.std.specs.Prelude.{◌≡◌, ℕ, ◌+◌, ◌<◌, ◌^◌, List, length, IfOk, IfErr, IsSome, Ok, Some, MatchResult};
+ghost use Rattle.std.specs.Prelude.{◌≡◌, ℕ, ◌+◌, ◌<◌, ◌^◌, List, length, IfOk, IfErr, IfSome, IsSome, Ok, Err, Some, MatchResult};
 ghost use Rattle.ctw_lex.specs.declared.LexFault.TheVariants.{NoMemory};
 ghost use Rattle.ctw_lex.specs.declared.TokenKind.TheVariants.{Text};
-ghost use Rattle.ctw_lex.specs.Answers.{HasTokens, IsFaultIn, AreSlices};
+ghost use Rattle.ctw_lex.specs.Answers.{HasTokens, HasFault, AreSlices};
 ghost use Rattle.ctw_lex.specs.Grammar.{IsString};
 ghost use Rattle.ctw_lex.specs.Strings.{string_value};
-ghost use Rattle.ctw_lex.specs.Tokens.{tokens_of, IsFaultOf};
+ghost use Rattle.ctw_lex.specs.Tokens.{tokens_of, place_of};
 
 mod bytes;
 mod escapes;
@@ -85,11 +85,11 @@ pub fn tokens<'a>(alloc: Global, text: &'a str) -> Result<TokenList<'a>, LexFaul
     requires { length text.now < 2 ^ 32 }
     ensures tokens { IfOk result (λ list. HasTokens text.now list) }
     ensures slices { IfOk result (λ list. AreSlices text.now list) }
-    ensures fault { IfErr result (λ fault. IsFaultIn text.now fault) }
+    ensures fault { IfErr result (λ fault. IfSome (place_of fault) (HasFault text.now)) }
 
     // The same by one function, which computes.
     ensures read { MatchResult result (λ list. tokens_of text.now ≡ Ok list)
-        (λ fault. IsFaultOf fault (tokens_of text.now)) }
+        (λ fault. IfSome (place_of fault) (λ place. tokens_of text.now ≡ Err place)) }
 {
     let bytes = text.as_bytes();
     let mut spans = Vec::new(alloc);

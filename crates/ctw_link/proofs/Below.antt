@@ -18,7 +18,8 @@ use Rattle.ctw_ops.specs.ExternType as external
 use Rattle.ctw_module.specs.Lookup.{export_in}
 use Rattle.ctw_link.specs.Sets.{NamedModule, ModuleSet, defined_in, defined}
 use Rattle.ctw_link.specs.Externals.{wanted, declared_type, offered, has_name, Meets, IsMet}
-use Rattle.ctw_link.specs.Numbers.{numbers_of, LinkedModule, is_named, exported_number, import_number, tag_of, same_tag, number_if, defined_before, numbers_behind, linked_module, with_linked, linked}
+use Rattle.ctw_ops.specs.Equal.{same_tag}
+use Rattle.ctw_link.specs.Numbers.{numbers_of, LinkedModule, is_named, exported_number, import_number, tag_of, number_if, defined_before, numbers_behind, linked_module, with_linked, linked}
 use Rattle.ctw_link.specs.Matching.{AreMatching}
 use Rattle.ctw_link.proofs.LinkedFronts.{bare, bare_linked}
 use Rattle.ctw_link.proofs.LinkedParts.{all_at, Counted, all_counted}

@@ -12,7 +12,7 @@ use Rattle.ctw_module.specs.Lookup.{imported_count}
 use Rattle.ctw_module.specs.Trees.{Lent, tree, code_of}
 use Rattle.ctw_link.specs.declared.set.Part.{Part}
 use Rattle.ctw_link.specs.Linked.{TellBlocks, code_at, codes_in, codes}
-use Rattle.ctw_link.proofs.IndexSpaces.{functions_count}
+use Rattle.ctw_module.proofs.IndexSpaces.{functions_count}
 
 -- those of some bodies, and those of others behind them
 pub told_append : (some others : List (List ℕ)) (maps behind : List (List Block)) → TellBlocks some maps → TellBlocks others behind → TellBlocks (some ++ others) (maps ++ behind)

@@ -15,7 +15,8 @@ use Rattle.ctw_ops.specs.Typing.{optional}
 use Rattle.ctw_ops.specs.Valid.{IsExported}
 use Rattle.ctw_ops.specs.Once.{with_table, with_memory, imported_tables, imported_memories, all_tables, all_memories}
 use Rattle.ctw_link.specs.Sets.{one_or_none, defined_in}
-use Rattle.ctw_link.specs.Numbers.{LinkedModule, numbers_behind, number_if, defined_before, tag_of, same_tag, import_number}
+use Rattle.ctw_ops.specs.Equal.{same_tag}
+use Rattle.ctw_link.specs.Numbers.{LinkedModule, numbers_behind, number_if, defined_before, tag_of, import_number}
 use Rattle.ctw_link.proofs.ValidParts.{there}
 
 -- how many things of a kind a module imports

@@ -1,6 +1,6 @@
 -- In a valid module functions and indirect calls name type entries that are there.
 use Rattle.std.proofs.Common.{◌≡◌, ◌≤◌, ◌<◌, ℕ, ◌+◌, List, [], ◌∷◌, ◌++◌, length, map, slice_get, filter_map, flat_map, All, Option, Some, None, IsSome, refl, arith, Bool, true, false, nat_lt, ◌-◌, if◌then◌else◌}
-use Rattle.std.proofs.lemmas.List.{length-append, length-map}
+use Rattle.std.proofs.lemmas.List.{length-map}
 use Rattle.std.proofs.lemmas.List.Elements.{All-nil, All-cons, All-head, All-tail, All-append, All-map, All-weaker}
 use Rattle.std.proofs.lemmas.Option.{slice_get_within, none-some}
 use Rattle.std.proofs.lemmas.Bool.{ltb-false}
@@ -115,9 +115,6 @@ unfolding tree parts
 few_elements lent s = let k = known lent (tree lent) s in omega (arith, k.size, heavy (parts lent).elements)
 
 -- ---- defined functions behind imported ones
-
-pub functions_count : (m : Module Label) → length (function_entries m) ≡ imported_count m + length m.functions
-functions_count m = omega (arith, length-append (imported_functions m.imports) (map (λ f. f.type) m.functions), length-map m.functions (λ f. f.type))
 
 pub named_at : (m : Module Label) (index : ℕ) (f : Function Label) → function_named m index ≡ Some f → (imported_count m ≤ index) × (slice_get m.functions (index - imported_count m) ≡ Some f)
 named_at m index f e = go (nat_lt index (imported_count m)) refl e

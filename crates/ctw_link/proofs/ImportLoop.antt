@@ -11,7 +11,8 @@ use Rattle.ctw_ops.specs.declared.types.ExternTag.TheVariants.{Func, Table, Memo
 use Rattle.ctw_link.specs.declared.fault.LinkFault.{LinkFault}
 use Rattle.ctw_link.specs.declared.fault.LinkFault.TheVariants.{NoMemory}
 use Rattle.ctw_link.specs.Sets.{NamedModule, ModuleSet}
-use Rattle.ctw_link.specs.Numbers.{StoreNumbers, numbers_of, number_if, tag_of, same_tag, import_number, linked}
+use Rattle.ctw_ops.specs.Equal.{same_tag}
+use Rattle.ctw_link.specs.Numbers.{StoreNumbers, numbers_of, number_if, tag_of, import_number, linked}
 use Rattle.ctw_link.specs.Users.{or_later}
 use Rattle.ctw_link.specs.Faults.{import_fault, imports_fault_from}
 use Rattle.ctw_link.specs.Resolving.{IsImport, HasImports, if_same, no_numbers}

@@ -6,7 +6,6 @@ pub mod Verdict
 pub mod SizeSums
 pub mod LinkedSets
 mod Examples
-pub mod IndexSpaces
 pub mod OwnerLists
 pub mod BlockMaps
 pub mod LinkedParts
@@ -26,6 +25,7 @@ pub mod Lists
 pub mod NameMaps
 pub mod ValidParts
 pub mod LinkedFronts
+pub mod OwnedInstances
 pub mod Counts
 pub mod Offering
 pub mod Pushes

@@ -14,9 +14,10 @@ use Rattle.ctw_ops.specs.Tree.{Extern, ImportedFunction, ImportedTable, Imported
 use Rattle.ctw_module.specs.Trees.{view_module}
 use Rattle.ctw_link.specs.declared.set.Part.{Part}
 use Rattle.ctw_link.specs.Sets.{NamedModule, ModuleSet, part_in, set_of, one_or_none}
-use Rattle.ctw_link.specs.Numbers.{StoreNumbers, LinkedModule, tag_of, same_tag, number_if, import_number, defined_before, linked_module, with_linked, linked}
+use Rattle.ctw_ops.specs.Equal.{same_tag}
+use Rattle.ctw_link.specs.Numbers.{StoreNumbers, LinkedModule, tag_of, number_if, import_number, defined_before, linked_module, with_linked, linked}
 use Rattle.ctw_link.specs.Linked.{IsPart}
-use Rattle.ctw_link.proofs.IndexSpaces.{functions_count, globals_count}
+use Rattle.ctw_module.proofs.IndexSpaces.{functions_count, globals_count}
 use Rattle.ctw_link.proofs.LinkedFronts.{bare, bare_linked, linked_length}
 
 -- ---- elements by index

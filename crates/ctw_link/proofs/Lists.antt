@@ -39,6 +39,12 @@ front_length [] i x e = absurd cc
 front_length (y ∷ xs) zero x e = refl
 front_length (y ∷ xs) (suc i) x e = ap suc (front_length xs i x e)
 
+-- behind a front
+pub skipped : {A : Type 0} (xs ys : List A) (k n : ℕ) → n ≡ k + length xs → slice_get (xs ++ ys) n ≡ slice_get ys k
+skipped {A} [] ys k n e = let q : n ≡ k = omega (arith, e) in ap (λ (m : ℕ). slice_get ys m) q
+skipped (x ∷ xs) ys k zero e = absurd (omega (arith, e))
+skipped (x ∷ xs) ys k (suc n) e = skipped xs ys k n (omega (arith, e))
+
 pub position_more : {A : Type 0} (t : A → Bool) (k : ℕ) (xs : List A) (x : A) → position_from t k (xs ++ x ∷ []) ≡ or_later (position_from t k xs) (cond (t x) (Some (k + length xs)) None)
 position_more t k [] x = let z : k ≡ k + 0 = omega arith in ap (λ (n : ℕ). cond (t x) (Some n) None) z
 position_more {A} t k (y ∷ xs) x = go (t y) (position_more t (k + 1) xs x)

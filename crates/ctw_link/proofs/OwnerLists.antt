@@ -13,7 +13,7 @@ use Rattle.ctw_module.specs.Trees.{tree, view_module}
 use Rattle.ctw_link.specs.declared.set.Part.{Part}
 use Rattle.ctw_link.specs.Sets.{NamedModule, AllWithinLimits, part_in, set_of}
 use Rattle.ctw_link.specs.Numbers.{owned, owners_from, owners}
-use Rattle.ctw_link.proofs.IndexSpaces.{functions_count}
+use Rattle.ctw_module.proofs.IndexSpaces.{functions_count}
 
 -- ---- the functions of one part
 

@@ -11,7 +11,7 @@ use Rattle.ctw_link.specs.declared.set.Part.{Part}
 use Rattle.ctw_link.specs.Sets.{set_of}
 use Rattle.ctw_link.specs.Numbers.{owned, owners_from, owners}
 use Rattle.ctw_link.specs.Linked.{IsPart, Defines, code_at, code_of_part, code_of_owner, code_in}
-use Rattle.ctw_link.proofs.IndexSpaces.{functions_count}
+use Rattle.ctw_module.proofs.IndexSpaces.{functions_count}
 use Rattle.ctw_link.proofs.LinkedParts.{all_at}
 
 abbrev Owns : List Part → ℕ × ℕ → Type 0

@@ -3,7 +3,8 @@ use Rattle.std.specs.Prelude.{ℕ, List, Option, None, option_and_then, slice_ge
 use Rattle.ctw_ops.specs.declared.types.ExternTag.{ExternTag}
 use Rattle.ctw_module.specs.Lookup.{export_in}
 use Rattle.ctw_link.specs.Sets.{ModuleSet}
-use Rattle.ctw_link.specs.Numbers.{LinkedModule, numbers_of, is_named, same_tag, linked}
+use Rattle.ctw_ops.specs.Equal.{same_tag}
+use Rattle.ctw_link.specs.Numbers.{LinkedModule, numbers_of, is_named, linked}
 
 -- the number of what a part exports under a name, where it is of this kind
 abbrev pub exported_as : ExternTag → List ℕ → LinkedModule → Option ℕ

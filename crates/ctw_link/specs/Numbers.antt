@@ -1,11 +1,12 @@
 -- The store numbers of a linked set (W3C WebAssembly Core 1.0, section 4.5.3): what a part imports has the number of
 -- what is exported, and what it defines takes the next number of its kind, part by part.
-use Rattle.std.specs.Prelude.{ℕ, ◌+◌, Bool, true, false, List, [], ◌∷◌, ◌++◌, fold, map, length, sum_by, filter_map, slice_get, find, Option, Some, None, option_and_then, unwrap_or, if◌then◌else◌}
+use Rattle.std.specs.Prelude.{ℕ, ◌+◌, Bool, List, [], ◌∷◌, ◌++◌, fold, map, length, sum_by, filter_map, slice_get, find, Option, Some, None, option_and_then, unwrap_or, if◌then◌else◌}
 use Rattle.std.specs.List.{range_with_len}
 use Rattle.std.specs.Str.{bytes_eq}
 use Rattle.ctw_ops.specs.declared.types.Label.{Label}
 use Rattle.ctw_ops.specs.declared.types.ExternTag.{ExternTag}
 use Rattle.ctw_ops.specs.declared.types.ExternTag.TheVariants.{Func, Table, Memory, Global}
+pub use Rattle.ctw_ops.specs.Equal.{same_tag}
 use Rattle.ctw_ops.specs.Tree.{Module, Extern, ImportedFunction, ImportedTable, ImportedMemory, ImportedGlobal, Import}
 use Rattle.ctw_module.specs.Lookup.{export_in, imported_count}
 use Rattle.ctw_link.specs.Sets.{NamedModule, ModuleSet, defined_in}
@@ -46,13 +47,6 @@ tag_of (ImportedFunction type) = Func
 tag_of (ImportedTable limits) = Table
 tag_of (ImportedMemory type) = Memory
 tag_of (ImportedGlobal type) = Global
-
-abbrev pub same_tag : ExternTag → ExternTag → Bool
-same_tag Func Func = true
-same_tag Table Table = true
-same_tag Memory Memory = true
-same_tag Global Global = true
-same_tag _ _ = false
 
 abbrev pub number_if : ExternTag → List LinkedModule → Import Label → Option ℕ
 number_if tag before i = if same_tag tag (tag_of i.kind) then Some (import_number before i) else None

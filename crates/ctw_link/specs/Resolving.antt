@@ -8,7 +8,8 @@ use Rattle.ctw_module.specs.Given.{extern_given}
 use Rattle.ctw_link.specs.declared.numbers.Numbering.{Numbering}
 use Rattle.ctw_link.specs.declared.offers.Offer.{Offer}
 use Rattle.ctw_link.specs.Sets.{NamedModule, ModuleSet, defined}
-use Rattle.ctw_link.specs.Numbers.{StoreNumbers, numbers_of, number_if, tag_of, same_tag, import_number, linked, number_in}
+use Rattle.ctw_ops.specs.Equal.{same_tag}
+use Rattle.ctw_link.specs.Numbers.{StoreNumbers, numbers_of, number_if, tag_of, import_number, linked, number_in}
 
 -- an index that is below a bound
 abbrev pub below : ℕ → Option ℕ → Option ℕ

@@ -18,3 +18,4 @@ mod users;
 pub use fault::LinkFault;
 pub use linking::link;
 pub use set::{LinkedSet, Part};
+pub use types::is_same;

@@ -106,7 +106,8 @@ impl EntriesUsed {
         requires functions { AllBelow (length (function_entries (tree m.now))) element.now.functions }
         requires count { length self.old.seen.items ≡ length (tree m.now).types }
         ensures entries { OnOk result (self.new.entries.items
-            ≡ fold with_entry self.old.entries.items (filter_map (slice_get (function_entries (tree m.now))) element.now.functions)) }
+            ≡ fold with_entry self.old.entries.items
+            (filter_map (slice_get (function_entries (tree m.now))) element.now.functions)) }
         ensures count { OnOk result (length self.new.seen.items ≡ length self.old.seen.items) }
     {
         'functions: for k in 0..element.count() {

@@ -19,7 +19,8 @@ use Rattle.ctw_modcheck.specs.Answers.{fault_at}
 use Rattle.ctw_modcheck.specs.Check.{function_body_fault, bodies_fault}
 use Rattle.ctw_modcheck.specs.Faults.{or_else, first_in}
 use Rattle.ctw_modcheck.proofs.Nones.{NoneWhere, none_first}
-use Rattle.ctw_modcheck.proofs.Counts.{functions_count, some_there}
+use Rattle.ctw_module.proofs.IndexSpaces.{functions_count}
+use Rattle.ctw_modcheck.proofs.Counts.{some_there}
 use Rattle.ctw_modcheck.proofs.Loops.{Reached, reached_more, reached_fault, reached_all, at_item}
 
 -- ---- no fault

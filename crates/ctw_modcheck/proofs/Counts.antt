@@ -1,18 +1,13 @@
--- How many functions and globals there are, and the types of those that are defined.
+-- The types of the functions and globals that a module defines.
 use Rattle.std.proofs.Common.{◌≡◌, ◌<◌, ℕ, zero, suc, ◌+◌, ◌-◌, List, [], ◌∷◌, length, map, slice_get, Option, Some, None, option_map, refl, sym, ap, ◌∙◌, arith}
-use Rattle.std.proofs.lemmas.List.{length-append, length-map}
+use Rattle.std.proofs.lemmas.List.{length-map}
 use Rattle.std.proofs.lemmas.Option.{slice_get-map}
 use Rattle.ctw_ops.specs.declared.types.Label.{Label}
 use Rattle.ctw_ops.specs.Types.{VariableType}
 use Rattle.ctw_ops.specs.Tree.{Module, Function, Global, Constant, imported_functions, imported_globals, function_entries, global_types}
 use Rattle.ctw_module.specs.Lookup.{imported_count, global_inits}
 use Rattle.ctw_form.proofs.Params.{slice_get_right}
-
-pub functions_count : (m : Module Label) → length (function_entries m) ≡ imported_count m + length m.functions
-functions_count m = omega (arith, length-append (imported_functions m.imports) (map (λ f. f.type) m.functions), length-map m.functions (λ f. f.type))
-
-pub globals_count : (m : Module Label) → length (global_types m) ≡ length (imported_globals m.imports) + length m.globals
-globals_count m = omega (arith, length-append (imported_globals m.imports) (map (λ g. g.type) m.globals), length-map m.globals (λ g. g.type))
+use Rattle.ctw_module.proofs.IndexSpaces.{functions_count, globals_count}
 
 pub some_there : {A : Type 0} (l : List A) (i : ℕ) → i < length l → (a : A) × (slice_get l i ≡ Some a)
 some_there [] i lt = absurd (omega (arith, lt))

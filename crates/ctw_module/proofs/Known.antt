@@ -2,6 +2,7 @@
 use Rattle.std.proofs.Common.{◌≡◌, ℕ, suc, ◌<◌, ◌≤◌, ◌^◌, List, [], ◌∷◌, length, map, refl, ap, arith}
 use Rattle.std.proofs.lemmas.List.{length-append, length-map}
 use Rattle.ctw_ops.specs.declared.types.Label.{Label}
+use Rattle.ctw_ops.specs.Limits.{most_locals_of_all}
 use Rattle.ctw_ops.specs.Tree.{Module, Import, Element, Extern, ImportedFunction, ImportedTable, ImportedMemory, ImportedGlobal, with_function, with_global, imported_functions, imported_globals, function_entries, global_types}
 use Rattle.ctw_form.specs.Sections.{Entry, Parts, functions_of}
 use Rattle.ctw_form.specs.Spelled.{Spells}
@@ -10,13 +11,14 @@ use Rattle.ctw_module.specs.declared.«module».Module.TheInside.{Inside}
 use Rattle.ctw_module.specs.View.{IsView, lent_by}
 use Rattle.ctw_form.proofs.FileForms.{spelled_file}
 use Rattle.ctw_form.proofs.Weights.{Every, weight}
-use Rattle.ctw_form.proofs.Brought.{HasFewParams, IsCoded, size_of, heft, file_brings}
+use Rattle.ctw_form.proofs.Brought.{HasFewParams, IsCoded, local_count, size_of, heft, file_brings}
 
 -- what the sections of a whole file have brought
 pub record Known (bytes : List ℕ) (p : Parts) : Type 0 where
   pub size : size_of p ≤ length bytes
   pub params : Every HasFewParams p.types
   pub coded : Every IsCoded p.entries
+  pub locals : weight local_count p.entries ≤ most_locals_of_all
   pub paired : length p.entries ≡ length p.uses
 
 pub file_is : (bytes : List ℕ) (m : Module Label) (s : Spells bytes m) → file_of_bytes bytes ≡ s.file
@@ -27,11 +29,11 @@ pub known : (lent : Lent) (m : Module Label) → Spells lent.bytes m → Known l
 unfolding parts
 known lent m s =
     let b = file_brings lent.bytes s.file s.spelled in
-    rw (file_is lent.bytes m s) (record { size = b.size; params = b.params; coded = b.coded; paired = omega (arith, b.paired, s.finished) })
+    rw (file_is lent.bytes m s) (record { size = b.size; params = b.params; coded = b.coded; locals = b.locals; paired = omega (arith, b.paired, s.finished) })
 
 -- ---- counts
 
-few_functions : (imports : List (Import Label)) → length (imported_functions imports) ≤ length imports
+pub few_functions : (imports : List (Import Label)) → length (imported_functions imports) ≤ length imports
 few_functions [] = omega arith
 few_functions (i ∷ imports) = one i.kind (few_functions imports)
   where
@@ -41,7 +43,7 @@ few_functions (i ∷ imports) = one i.kind (few_functions imports)
     one (ImportedMemory type) h = omega arith
     one (ImportedGlobal type) h = omega arith
 
-few_globals : (imports : List (Import Label)) → length (imported_globals imports) ≤ length imports
+pub few_globals : (imports : List (Import Label)) → length (imported_globals imports) ≤ length imports
 few_globals [] = omega arith
 few_globals (i ∷ imports) = one i.kind (few_globals imports)
   where

@@ -6,3 +6,5 @@ pub mod Readers
 pub mod LocalTypes
 pub mod Filling
 pub mod Indexing
+pub mod IndexSpaces
+pub mod Sizes

@@ -17,7 +17,8 @@ use Rattle.ctw_semantics.specs.Instances.{FunctionInstance}
 use Rattle.ctw_semantics.proofs.SoundStores.{memory_at}
 use Rattle.ctw_module.specs.Lookup.{export_in}
 use Rattle.ctw_link.specs.Sets.{ModuleSet}
-use Rattle.ctw_link.specs.Numbers.{LinkedModule, numbers_of, is_named, same_tag, linked}
+use Rattle.ctw_ops.specs.Equal.{same_tag}
+use Rattle.ctw_link.specs.Numbers.{LinkedModule, numbers_of, is_named, linked}
 use Rattle.ctw_link.proofs.Below.{found_all}
 use Rattle.ctw_link.proofs.ValidParts as ValidParts
 use Rattle.ctw_link.specs.SetInstances.{set_instances}

@@ -1,4 +1,4 @@
--- Tests for equal labels and types.
+-- Tests for equal labels, types and kinds.
 use Rattle.std.specs.Prelude.{Bool, true, false, ◌&&◌, List, [], ◌∷◌, Option, Some, None}
 use Rattle.ctw_ops.specs.declared.types.Label.{Label}
 use Rattle.ctw_ops.specs.declared.types.Label.TheVariants.{Public, Secret}
@@ -6,6 +6,8 @@ use Rattle.ctw_ops.specs.declared.types.Width.{Width}
 use Rattle.ctw_ops.specs.declared.types.Width.TheVariants.{W32, W64}
 use Rattle.ctw_ops.specs.declared.types.Trust.{Trust}
 use Rattle.ctw_ops.specs.declared.types.Trust.TheVariants.{Untrusted, Trusted}
+use Rattle.ctw_ops.specs.declared.types.ExternTag.{ExternTag}
+use Rattle.ctw_ops.specs.declared.types.ExternTag.TheVariants.{Func, Table, Memory, Global}
 use Rattle.ctw_ops.specs.Types.{ValueType, FunctionType, erase_function_type}
 
 abbrev pub same_label : Label → Label → Bool
@@ -22,6 +24,13 @@ abbrev pub same_trust : Trust → Trust → Bool
 same_trust Untrusted Untrusted = true
 same_trust Trusted Trusted = true
 same_trust _ _ = false
+
+abbrev pub same_tag : ExternTag → ExternTag → Bool
+same_tag Func Func = true
+same_tag Table Table = true
+same_tag Memory Memory = true
+same_tag Global Global = true
+same_tag _ _ = false
 
 -- width and label are equal
 abbrev pub same_type : ValueType Label → ValueType Label → Bool

@@ -68,14 +68,15 @@ type_byte t = of t.width t.tag
     of W32 Secret = 0x7A
     of W64 Secret = 0x79
 
+-- the one of these types whose byte a byte is
+abbrev pub type_among : List (ValueType Label) → ℕ → Option (ValueType Label)
+type_among [] byte = None
+type_among (t ∷ types) byte = if byte == type_byte t then Some t else type_among types byte
+
 -- the value type of a byte, where it has one
 abbrev pub byte_type : ℕ → Option (ValueType Label)
 byte_type byte =
-    if byte == 0x7F then Some (value_type W32 Public)
-    else if byte == 0x7E then Some (value_type W64 Public)
-    else if byte == 0x7A then Some (value_type W32 Secret)
-    else if byte == 0x79 then Some (value_type W64 Secret)
-    else None
+    type_among (value_type W32 Public ∷ value_type W64 Public ∷ value_type W32 Secret ∷ value_type W64 Secret ∷ []) byte
 
 abbrev pub is_type_byte : ℕ → Bool
 is_type_byte byte = is_some (byte_type byte)

@@ -1,16 +1,21 @@
-ghost use Rattle.std.specs.Prelude.{◌≡◌, ◌+◌, ◌≤◌, length, IfOk};
+ghost use Rattle.std.specs.Prelude.{◌≡◌, ◌+◌, ◌≤◌, ◌||◌, length, IfOk, None, if◌then◌else◌};
 ghost use Rattle.ctw_leb.specs.Calls.{Finds};
 ghost use Rattle.ctw_ops.specs.Limits.{most_locals_of_all};
+ghost use Rattle.ctw_ops.specs.Plain.{is_plain_op, is_plain_type as type_is_plain};
+ghost use Rattle.ctw_flat.specs.Instructions.{op_of};
+ghost use Rattle.ctw_form.specs.declared.fault.FormKind.TheVariants.{LabelsInPlain};
 ghost use Rattle.ctw_form.specs.Sections.{locals_of};
 ghost use Rattle.ctw_form.specs.Spelled.{all_after};
-ghost use Rattle.ctw_form.specs.Read.{label_place as place_of_label, label_at, form_step_at, form_body_at, groups_at, entry_insides_at, code_entry_at, codes_at};
+ghost use Rattle.ctw_form.specs.Read.{label_place as place_of_label, form_step_at, form_body_at, groups_at, entry_insides_at, code_entry_at, codes_at};
+ghost use Rattle.ctw_read.specs.declared.fault.ReadFault.TheVariants.{Bad};
 ghost use Rattle.ctw_read.specs.Calls.{in_sized, Reads, ReadsFront, Steps, Tells};
 
 use crate::fault::ReadFault;
-use ctw_flat::{BuildFault, Nesting};
+use ctw_flat::{BuildFault, Instr, Nesting};
 use ctw_form::items::{group, inside, number, of_code, window};
 use ctw_form::{FormFault, FormKind};
 use ctw_leb::Cursor;
+use ctw_ops::{Label, ValType};
 use std::alloc::Global;
 
 /// The place of the byte that stands for a label in the opcode at the cursor.
@@ -26,38 +31,75 @@ fn label_place(cursor: &Cursor) -> Option<u32>
     }
 }
 
-/// The same in a plain module, where an opcode may stand at all.
-fn refused_label(ct: bool, nesting: &Nesting, cursor: &Cursor) -> Option<u32>
-    ensures { result ≡ label_at ct nesting.now cursor.now }
+/// The place of a label that comes before what is wrong with the opcode at the front: in a plain module, where an
+/// opcode may stand at all.
+fn refused_label(ct: bool, closed: bool, deep: bool, front: &Cursor) -> Option<u32>
+    ensures { result ≡ (if ct || (closed || deep) then None else place_of_label front.now.at front.now.rest) }
 {
-    if ct {
+    if ct || closed || deep {
         return None;
     }
-    match label_place(cursor) {
-        Some(place) => {
-            if nesting.is_closed() || nesting.is_too_deep(cursor) {
-                return None;
-            }
-            Some(place)
-        }
-        None => None,
+    label_place(front)
+}
+
+fn is_plain_type(t: Option<ValType>) -> bool
+    ensures { result ≡ type_is_plain t }
+{
+    match t {
+        Some(t) => t.label == Label::Public,
+        None => true,
     }
 }
 
-/// The next instruction of a body.
+/// Whether a plain module has such an instruction: it changes no label and names no secret one.
+fn is_plain(instr: &Instr) -> bool
+    ensures { result ≡ is_plain_op (op_of instr.now) }
+{
+    match instr {
+        Instr::Block { result } | Instr::Loop { result } | Instr::If { result } => {
+            is_plain_type(*result)
+        }
+        Instr::Select { label }
+        | Instr::Load { label, .. }
+        | Instr::Store { label, .. }
+        | Instr::Const { label, .. }
+        | Instr::Numeric { label, .. } => *label == Label::Public,
+        Instr::Classify { .. } | Instr::Declassify { .. } => false,
+        _ => true,
+    }
+}
+
+fn labels_in_plain(place: u32) -> ReadFault
+    ensures { result ≡ Bad LabelsInPlain place }
+{
+    ReadFault::Bad {
+        kind: FormKind::LabelsInPlain,
+        place,
+    }
+}
+
+/// The next instruction of a body. Bytes are asked for a label only where they aren't those of a plain instruction.
 #[tactic(auto, unfolding(ctw_form::specs::Read::form_step_at))]
 fn step(ct: bool, nesting: &mut Nesting, cursor: &mut Cursor) -> Result<(), ReadFault>
     ensures { Steps result nesting.old nesting.new cursor.new (form_step_at ct nesting.old cursor.old) }
 {
-    if let Some(place) = refused_label(ct, nesting, cursor) {
-        return Err(ReadFault::Bad {
-            kind: FormKind::LabelsInPlain,
-            place,
-        });
-    }
+    let closed = nesting.is_closed();
+    let deep = nesting.is_too_deep(cursor);
+    let front = cursor.duplicate();
     match nesting.step(cursor) {
-        Ok(_) => Ok(()),
-        Err(BuildFault::Bad(fault)) => Err(ReadFault::from(of_code(fault))),
+        Ok(instr) => {
+            if ct || is_plain(&instr) {
+                return Ok(());
+            }
+            match label_place(&front) {
+                Some(place) => Err(labels_in_plain(place)),
+                None => unreachable!(),
+            }
+        }
+        Err(BuildFault::Bad(fault)) => match refused_label(ct, closed, deep, &front) {
+            Some(place) => Err(labels_in_plain(place)),
+            None => Err(ReadFault::from(of_code(fault))),
+        },
         Err(BuildFault::NoMemory) => Err(ReadFault::NoMemory),
     }
 }

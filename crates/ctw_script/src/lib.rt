@@ -18,7 +18,7 @@ ghost use Rattle.ctw_script.specs.Scripts.{IsReading};
 
 pub use arguments::argument;
 pub use event::Event;
-pub use lines::{event_text, lines_tell_replies_apart, reply_text};
+pub use lines::{event_text, lines_tell_replies_apart, reply_text, trap_word};
 pub use moves::{Arg, Args, Move, Slot64};
 pub use reply::{Refusal, Reply, Shown};
 pub use script::{Moves, ScriptFault, read_script};

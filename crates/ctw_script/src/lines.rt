@@ -32,7 +32,8 @@ fn width_word(width: Width) -> &'static [u8]
     }
 }
 
-fn trap_word(code: TrapCode) -> &'static [u8]
+/// The word that tells why a call traps.
+pub fn trap_word(code: TrapCode) -> &'static [u8]
     ensures { result.now ≡ trap_word code }
 {
     match code {

@@ -37,10 +37,11 @@ load_fits : (w : Width) (count : ℕ) (signed : Bool) → is_load w count signed
 load_fits W32 count signed e = grind (arith, nat_tests)
 load_fits W64 count signed e = grind (arith, nat_tests)
 
-taken_below : (count : ℕ) (bytes : List ℕ) → All IsByte bytes → number_of_bytes (take count bytes) < 2 ^ (8 * count)
-taken_below count bytes b =
-    let short : length (take count bytes) ≤ count = omega (arith, length-take count bytes) in
-    lt_of_lt_of_le (number_below (take count bytes) (All-take IsByte count bytes b)) (pow_mono (omega (arith, short)))
+-- a number that so many bytes stand for
+pub read_below : (count at : ℕ) (bytes : List ℕ) → All IsByte bytes → number_of_bytes (take count (drop at bytes)) < 2 ^ (8 * count)
+read_below count at bytes b =
+    let short : length (take count (drop at bytes)) ≤ count = omega (arith, length-take count (drop at bytes)) in
+    lt_of_lt_of_le (number_below (take count (drop at bytes)) (All-take IsByte count (drop at bytes) (All-drop IsByte at bytes b))) (pow_mono (omega (arith, short)))
 
 pub number_at_fits : (w : Width) (signed : Bool) (count at : ℕ) (bytes : List ℕ) → is_load w count signed ≡ true → All IsByte bytes → FitsWidth w (number_at w signed count at bytes)
 unfolding number_at
@@ -50,7 +51,7 @@ number_at_fits w signed count at bytes load b = either signed
     n = number_of_bytes (take count (drop at bytes))
 
     small : n < 2 ^ (8 * count)
-    small = taken_below count (drop at bytes) (All-drop IsByte at bytes b)
+    small = read_below count at bytes b
 
     room : 8 * count ≤ bit_width w
     room = load_fits w count signed load

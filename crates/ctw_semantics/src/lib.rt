@@ -1,6 +1,6 @@
-// What running code means: values, stores and activations, one reduction, steps and turns, what an onlooker sees of
-// them, which states are sound, and what is left of a state when its labels are erased. This crate has definitions
-// and their laws, and no work.
+//! What running code means: values, stores and activations, one reduction, steps and turns, what an onlooker sees of
+//! them, which states are sound, and what is left of a state when its labels are erased. This crate has definitions
+//! and their laws, and no work.
 #![tactic(auto)]
 
 mod laws;

@@ -1,7 +1,7 @@
 -- What a linked set says of the function that runs.
 use Rattle.std.specs.Prelude.{if◌then◌else◌, unwrap_or}
 use Rattle.ctw_ops.specs.Types.{FunctionType}
-use Rattle.ctw_link.proofs.IndexSpaces.{functions_count}
+use Rattle.ctw_module.proofs.IndexSpaces.{functions_count}
 use Rattle.std.proofs.lemmas.Bool.Decides.{nat_tests}
 use Rattle.ctw_ops.specs.Code.{Code, ByEnd}
 use Rattle.ctw_ops.specs.Segments.{segment}
@@ -26,14 +26,14 @@ use Rattle.ctw_module.specs.Lookup.{imported_count, function_named}
 use Rattle.ctw_link.specs.declared.set.Part.{Part}
 use Rattle.ctw_link.specs.Sets.{set_of, defined, part_in}
 use Rattle.ctw_link.specs.Numbers.{StoreNumbers, LinkedModule, numbers_of, linked, number_in, owners}
-use Rattle.ctw_link.specs.Linked.{IsPart, HasFunction, HasGlobal, code_at, code_in, code_of_owner, code_of_part}
+use Rattle.ctw_link.specs.Linked.{IsPart, HasFunction, HasGlobal, code_at, code_in}
 use Rattle.ctw_link.proofs.LinkedParts.{LinkedAt, linked_at}
 use Rattle.ctw_link.proofs.LinkedFronts.{linked_length}
 use Rattle.ctw_link.proofs.Owned.{all_owned as owners_counted}
 use Rattle.ctw_link.specs.SetInstances.{module_instance, instance_at}
 use Rattle.ctw_step.specs.SetInstances.{instances}
-use Rattle.ctw_link.proofs.Owners.{owner_defines}
-use Rattle.ctw_step.proofs.OwnedInstances.{owner_instance, instances_count}
+use Rattle.ctw_link.proofs.Owners.{owner_defines, code_is}
+use Rattle.ctw_link.proofs.OwnedInstances.{owner_instance, instances_count}
 
 mapped : {A B : Type 0} (f : A → B) (o : Option A) (b : B) → option_map f o ≡ Some b → (a : A) × (o ≡ Some a) × (f a ≡ b)
 mapped f None b e = absurd cc
@@ -124,7 +124,7 @@ home parts func part index fn eo ef =
       f = f.0;
       named = f.1;
       fn_is = sym f.2;
-      code = ap (code_of_owner parts) eo ∙ ap (code_of_part index) o.is;
+      code = code_is parts func part index o.part eo o.is;
     }
 
 module _ (parts : List Part) (func part index : ℕ) (fn : FunctionInstance) (h : Home parts func part index fn) where
@@ -155,9 +155,6 @@ func_below parts func fn e =
 -- an index that leads somewhere is a part's
 pub part_there : (parts : List Part) (tag : ExternTag) (k i n : ℕ) → number_in (set_of parts) tag k i ≡ Some n → k < length parts
 part_there parts tag k i n e = let q = part_at parts tag k i n e in part_below parts k q.0 q.1
-
-pub code_of_owned : (parts : List Part) (func k i : ℕ) (p : Part) → slice_get (owners (set_of parts)) func ≡ Some (k, i) → IsPart parts k p → code_in parts func ≡ code_at p.«module» i
-code_of_owned parts func k i p eo ep = ap (code_of_owner parts) eo ∙ ap (code_of_part i) ep
 
 pub some_owner : (parts : List Part) (func : ℕ) → func < defined Func (set_of parts) → (k : ℕ) × (i : ℕ) × (slice_get (owners (set_of parts)) func ≡ Some (k, i))
 some_owner parts func h = let x = item_at (owners (set_of parts)) func (omega (arith, h, owners_counted (set_of parts))) in (x.0.0, x.0.1, x.1)

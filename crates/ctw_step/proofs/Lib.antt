@@ -14,7 +14,6 @@ pub mod NumericLaws
 pub mod TableTargets
 pub mod MemoryLaws
 pub mod CallLaws
-pub mod OwnedInstances
 pub mod Homes
 pub mod Dispatch
 pub mod IndirectLaws

@@ -1,8 +1,6 @@
 -- Loads, stores, sizes and growth of memories, and globals.
 use Rattle.std.specs.Prelude.{if◌then◌else◌}
-use Rattle.std.proofs.Common.{pow_mono, lt_of_lt_of_le, ◌≡◌, ◌≢◌, ℕ, suc, ◌+◌, ◌*◌, ◌<◌, ◌≤◌, ◌^◌, Bool, true, false, nat_le, List, [], ◌∷◌, ◌++◌, length, take, drop, Option, Some, None, slice_get, All, refl, sym, ap, ◌∙◌, subst, arith, length-take}
-use Rattle.std.proofs.lemmas.List.Elements.{All-head, All-tail, All-take, All-drop}
-use Rattle.std.proofs.lemmas.Nat.{pow-add}
+use Rattle.std.proofs.Common.{◌≡◌, ◌≢◌, ℕ, ◌+◌, ◌<◌, ◌^◌, Bool, true, false, nat_le, List, [], ◌∷◌, ◌++◌, length, Option, Some, None, slice_get, refl, sym, ap, ◌∙◌, subst, arith}
 use Rattle.std.proofs.lemmas.Bool.Decides.{nat_tests}
 use Rattle.std.proofs.lemmas.Option.{slice_get_within}
 use Rattle.ctw_ops.specs.declared.types.Label.{Label}
@@ -17,7 +15,7 @@ use Rattle.ctw_script.specs.declared.trap.TrapCode.TheVariants.{MemoryBounds}
 use Rattle.ctw_script.specs.declared.event.Event.{Event}
 use Rattle.ctw_script.specs.declared.event.Event.TheVariants as Events
 use Rattle.ctw_semantics.specs.Values.{Value, value, i32}
-use Rattle.ctw_semantics.specs.Stores.{Global, Storage, Memory, number_of_bytes, number_at, bytes_of_number, written_at, with_bytes, with_number, pages, may_grow, grown}
+use Rattle.ctw_semantics.specs.Stores.{Global, Storage, Memory, number_at, bytes_of_number, written_at, with_bytes, with_number, pages, may_grow, grown}
 use Rattle.ctw_semantics.specs.Instances.{FunctionInstance, Functions}
 use Rattle.ctw_semantics.specs.Answers.{Answer, Goes, Trapped, Stuck, Reduced, given}
 use Rattle.ctw_semantics.specs.Machine as Machine
@@ -30,23 +28,6 @@ use Rattle.ctw_step.specs.Told.{Tells, Meets, AllFit, Loaded, Stored, Grew, with
 use Rattle.ctw_step.proofs.Inside.{under, operands_are}
 use Rattle.ctw_step.proofs.Numbers.{numbers_push, numbers_top, numbers_two}
 use Rattle.ctw_step.proofs.Views.{noted, given_is, provided_is, popped, AtLeaf, leaf_view, last_is, went_with, trapped}
-
--- ---- bytes
-
-number_below : (bytes : List ℕ) → All (λ byte. byte < 256) bytes → number_of_bytes bytes < 2 ^ (8 * length bytes)
-number_below [] b = omega arith
-number_below (byte ∷ bytes) b =
-    let rest : number_of_bytes bytes < 2 ^ (8 * length bytes) = number_below bytes (All-tail (λ byte. byte < 256) byte bytes b) in
-    let first : byte < 256 = All-head (λ byte. byte < 256) byte bytes b in
-    let longer : 8 * suc (length bytes) ≡ 8 * length bytes + 8 = omega arith in
-    let power : 2 ^ (8 * suc (length bytes)) ≡ 2 ^ (8 * length bytes) * 256 = ap (λ k. 2 ^ k) longer ∙ pow-add 2 (8 * length bytes) 8 in
-    omega (arith, rest, first, power)
-
--- a number that so many bytes stand for
-pub read_below : (count at : ℕ) (bytes : List ℕ) → All (λ byte. byte < 256) bytes → number_of_bytes (take count (drop at bytes)) < 2 ^ (8 * count)
-read_below count at bytes b =
-    let short : length (take count (drop at bytes)) ≤ count = omega (arith, length-take count (drop at bytes)) in
-    lt_of_lt_of_le (number_below (take count (drop at bytes)) (All-take (λ byte. byte < 256) count (drop at bytes) (All-drop (λ byte. byte < 256) at bytes b))) (pow_mono (omega (arith, short)))
 
 -- ---- what is there
 

@@ -1,10 +1,8 @@
 //! Indirect calls.
-ghost use Rattle.std.specs.Prelude.{◌≡◌, ◌<◌, ◌∷◌, ◌++◌, [], ℕ, List, length, Some, None, IfErr, slice_get, IsTrue};
-ghost use Rattle.std.specs.List.{list_all};
+ghost use Rattle.std.specs.Prelude.{◌≡◌, ◌<◌, ◌∷◌, ◌++◌, [], ℕ, List, length, Some, None, IfErr, slice_get};
 ghost use Rattle.ctw_ops.specs.declared.types.Label.{Label};
 ghost use Rattle.ctw_ops.specs.declared.types.ExternTag.TheVariants.{Func};
-ghost use Rattle.ctw_ops.specs.Types.{byte_types, is_type_byte};
-ghost use Rattle.ctw_ops.specs.Equal.{same_label, same_width, same_trust, same_type, same_types, same_result, same_function_type};
+ghost use Rattle.ctw_ops.specs.Equal.{same_function_type};
 ghost use Rattle.ctw_ops.specs.Tree.{TypeEntry};
 ghost use Rattle.ctw_flat.specs.declared.instr.Instr.TheVariants as instr;
 ghost use Rattle.ctw_link.specs.Sets.{set_of, defined};
@@ -19,64 +17,10 @@ use crate::calls::enter_frame;
 use crate::running::{Running, Stepped};
 use crate::sets::{callee_of, entry_in, table_in, type_in};
 use crate::words::top_small;
-use ctw_link::LinkedSet;
-use ctw_ops::{FuncType, Label, Trust, ValType, Width};
+use ctw_link::{LinkedSet, is_same};
 use ctw_script::{Event, TrapCode};
 use ctw_store::Store;
 use std::alloc::AllocError;
-
-/// Whether two types are equal, labels and trust too.
-pub fn is_same(a: &FuncType, b: &FuncType) -> bool
-    ensures { result ≡ same_function_type a.now b.now }
-{
-    is_same_trust(a.trust, b.trust)
-        && is_same_params(a.params, b.params)
-        && is_same_result(a.result, b.result)
-}
-
-/// Whether the types of two lists of bytes are equal.
-#[tactic(auto, using(ctw_link::proofs::TypeBytes::same_params))]
-fn is_same_params(a: &[u8], b: &[u8]) -> bool
-    requires first { IsTrue (list_all is_type_byte a.now) }
-    requires second { IsTrue (list_all is_type_byte b.now) }
-    ensures { result ≡ same_types (byte_types a.now) (byte_types b.now) }
-{
-    a == b
-}
-
-fn is_same_result(a: Option<ValType>, b: Option<ValType>) -> bool
-    ensures { result ≡ same_result a b }
-{
-    match (a, b) {
-        (None, None) => true,
-        (Some(a), Some(b)) => is_same_type(a, b),
-        _ => false,
-    }
-}
-
-fn is_same_type(a: ValType, b: ValType) -> bool
-    ensures { result ≡ same_type a b }
-{
-    is_same_width(a.width, b.width) && is_same_label(a.label, b.label)
-}
-
-fn is_same_width(a: Width, b: Width) -> bool
-    ensures { result ≡ same_width a b }
-{
-    a == b
-}
-
-fn is_same_label(a: Label, b: Label) -> bool
-    ensures { result ≡ same_label a b }
-{
-    a == b
-}
-
-fn is_same_trust(a: Trust, b: Trust) -> bool
-    ensures { result ≡ same_trust a b }
-{
-    a == b
-}
 
 /// Whether a function of the store has the type of a part's type entry.
 fn has_type(set: &LinkedSet, part: u32, entry: u32, func: u32) -> bool

@@ -141,7 +141,8 @@ pub fn store_number(
         (instr.Store width l bytes signed align offset) next store.old.storage }
     ensures does { (l : Label) (signed : Bool) (align : ℕ) (code : List ℕ)
         → Does (HasMemory mem) code (shown act.old)
-        (instr.Store width l bytes signed align offset) next store.old.storage result (shown act.new) store.new.storage }
+        (instr.Store width l bytes signed align offset) next store.old.storage result (shown act.new)
+        store.new.storage }
     ensures settles { IfOk result (Settles store.old.storage (shown act.old) store.new.storage (shown act.new)) }
     ensures kept { IfErr result (λ _. (shown act.new ≡ shown act.old) × (store.new.storage ≡ store.old.storage)) }
     ensures made { KeepsMade store.old.made store.new.made }
@@ -171,7 +172,8 @@ pub fn memory_size(
 ) -> Result<Stepped, AllocError>
     requires { (code : List ℕ) × Runs (HasMemory mem) code (shown act.old) instr.MemorySize next store.now.storage }
     ensures does { (code : List ℕ)
-        → Does (HasMemory mem) code (shown act.old) instr.MemorySize next store.now.storage result (shown act.new) store.now.storage }
+        → Does (HasMemory mem) code (shown act.old) instr.MemorySize next store.now.storage result
+        (shown act.new) store.now.storage }
     ensures kept { IfErr result (λ _. shown act.new ≡ shown act.old) }
 {
     push(act, store.size(mem) as u64, next)?;
@@ -202,7 +204,8 @@ pub fn memory_grow(
 ) -> Result<Stepped, AllocError>
     requires { (code : List ℕ) × Runs (HasMemory mem) code (shown act.old) instr.MemoryGrow next store.old.storage }
     ensures does { (code : List ℕ)
-        → Does (HasMemory mem) code (shown act.old) instr.MemoryGrow next store.old.storage result (shown act.new) store.new.storage }
+        → Does (HasMemory mem) code (shown act.old) instr.MemoryGrow next store.old.storage result
+        (shown act.new) store.new.storage }
     ensures settles { IfOk result (Settles store.old.storage (shown act.old) store.new.storage (shown act.new)) }
     ensures kept { IfErr result (λ _. (shown act.new ≡ shown act.old) × (store.new.storage ≡ store.old.storage)) }
     ensures made { KeepsMade store.old.made store.new.made }

@@ -44,8 +44,10 @@ pub fn counted(
     requires exactly { IsExactly instr.now }
     requires ends { TellsEnds body.now (ends_in blocks.now) }
     requires small { (mem : ℕ) → HasBytes store.old.storage mem }
-    requires runs { CanReduce set.now part body.now (with_operands (shown act.old) act.old.operands.items at) instr.now next store.old.storage }
-    ensures does { Counts set.now part body.now (with_operands (shown act.old) act.old.operands.items at) instr.now next store.old.storage result (shown act.new) store.new.storage }
+    requires runs { CanReduce set.now part body.now (with_operands (shown act.old) act.old.operands.items at)
+        instr.now next store.old.storage }
+    ensures does { Counts set.now part body.now (with_operands (shown act.old) act.old.operands.items at)
+        instr.now next store.old.storage result (shown act.new) store.new.storage }
     ensures ends { words (shown act.old) ≤ most_weight → IfOk result (KeepsAtEnd store.old.storage store.new.storage) }
     ensures kept { IfErr result (λ _. (shown act.new ≡ shown act.old) × (store.new.storage ≡ store.old.storage)) }
     ensures made { KeepsMade store.old.made store.new.made }
@@ -72,7 +74,9 @@ pub fn step_running(
     ensures does { (shape : Shape) (last : Option (ValueType Label)) (a : Activation)
         → Standing set.now store.old.storage (shown act.old) shape last a
         → IfOk result (λ r.
-        Tells (code_in set.now) store.new.storage (shown act.new) r (step_of (instances set.now) store.old.storage a).answer (step_of (instances set.now) store.old.storage a).event) }
+        Tells (code_in set.now) store.new.storage (shown act.new) r
+        (step_of (instances set.now) store.old.storage a).answer
+        (step_of (instances set.now) store.old.storage a).event) }
     ensures ends { IfOk result (KeepsAtEnd store.old.storage store.new.storage) }
     ensures kept { IfErr result (λ _. (shown act.new ≡ shown act.old) × (store.new.storage ≡ store.old.storage)) }
     ensures made { KeepsMade store.old.made store.new.made }

@@ -70,7 +70,8 @@ pub fn store_in(
         (instr.Store width l bytes signed align offset) next store.old.storage }
     ensures does { (l : Label) (signed : Bool) (align : ℕ) (code : List ℕ)
         → Reduces set.now part code (shown act.old)
-        (instr.Store width l bytes signed align offset) next store.old.storage result (shown act.new) store.new.storage }
+        (instr.Store width l bytes signed align offset) next store.old.storage result (shown act.new)
+        store.new.storage }
     ensures settles { IfOk result (Settles store.old.storage (shown act.old) store.new.storage (shown act.new)) }
     ensures kept { IfErr result (λ _. (shown act.new ≡ shown act.old) × (store.new.storage ≡ store.old.storage)) }
     ensures made { KeepsMade store.old.made store.new.made }
@@ -89,7 +90,8 @@ pub fn size_in(
     requires runs { (code : List ℕ)
         × CanReduce set.now part code (shown act.old) instr.MemorySize next store.now.storage }
     ensures does { (code : List ℕ)
-        → Reduces set.now part code (shown act.old) instr.MemorySize next store.now.storage result (shown act.new) store.now.storage }
+        → Reduces set.now part code (shown act.old) instr.MemorySize next store.now.storage result
+        (shown act.new) store.now.storage }
     ensures kept { IfErr result (λ _. shown act.new ≡ shown act.old) }
 {
     memory_size(store, act, memory_in(set, part), next)
@@ -106,7 +108,8 @@ pub fn grow_in(
     requires runs { (code : List ℕ)
         × CanReduce set.now part code (shown act.old) instr.MemoryGrow next store.old.storage }
     ensures does { (code : List ℕ)
-        → Reduces set.now part code (shown act.old) instr.MemoryGrow next store.old.storage result (shown act.new) store.new.storage }
+        → Reduces set.now part code (shown act.old) instr.MemoryGrow next store.old.storage result
+        (shown act.new) store.new.storage }
     ensures settles { IfOk result (Settles store.old.storage (shown act.old) store.new.storage (shown act.new)) }
     ensures kept { IfErr result (λ _. (shown act.new ≡ shown act.old) × (store.new.storage ≡ store.old.storage)) }
     ensures made { KeepsMade store.old.made store.new.made }

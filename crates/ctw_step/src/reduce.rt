@@ -39,7 +39,8 @@ pub fn reduce(
     requires ends { TellsEnds body.now (ends_in blocks.now) }
     requires small { (mem : ℕ) → HasBytes store.old.storage mem }
     requires runs { CanReduce set.now part body.now (shown act.old) instr.now next store.old.storage }
-    ensures does { Reduces set.now part body.now (shown act.old) instr.now next store.old.storage result (shown act.new) store.new.storage }
+    ensures does { Reduces set.now part body.now (shown act.old) instr.now next store.old.storage result
+        (shown act.new) store.new.storage }
     ensures settles { IfOk result (Settles store.old.storage (shown act.old) store.new.storage (shown act.new)) }
     ensures kept { IfErr result (λ _. (shown act.new ≡ shown act.old) × (store.new.storage ≡ store.old.storage)) }
     ensures made { KeepsMade store.old.made store.new.made }

@@ -12,7 +12,7 @@ use Rattle.ctw_ops.specs.declared.types.ExternTag.{ExternTag}
 use Rattle.ctw_ops.specs.declared.types.ExternTag.TheVariants.{Func, Table, Memory, Global}
 use Rattle.ctw_ops.specs.ValueType.{ValueType}
 use Rattle.ctw_ops.specs.Types.{VariableType, MemoryType, value_type}
-use Rattle.ctw_ops.specs.Equal.{same_trust, same_types}
+use Rattle.ctw_ops.specs.Equal.{same_trust, same_types, same_tag}
 use Rattle.ctw_ops.specs.Code as ops
 use Rattle.ctw_ops.specs.Code.{Leaf, Shape, ByElse, ByEnd}
 use Rattle.ctw_ops.specs.Tree.{Constant, Extern, Import, Export, Element, Segment, Custom}
@@ -107,13 +107,6 @@ names_of S Func = S.funcs
 names_of S Table = S.tables
 names_of S Memory = S.memories
 names_of S Global = S.globals
-
-abbrev pub same_tag : ExternTag → ExternTag → Bool
-same_tag Func Func = true
-same_tag Table Table = true
-same_tag Memory Memory = true
-same_tag Global Global = true
-same_tag _ _ = false
 
 -- the kind of what a field imports or defines
 abbrev pub tag_of : Field → Option ExternTag

@@ -1,5 +1,5 @@
 -- The pass over a body's bytes, opcode by opcode.
-use Rattle.std.proofs.Common.{◌≡◌, ℕ, suc, ◌+◌, ◌<◌, ◌≤◌, List, length, Some, None, Ok, Err, sym, ◌∙◌, ap, arith}
+use Rattle.std.proofs.Common.{◌≡◌, ◌⊎◌, inl, inr, ℕ, suc, ◌+◌, ◌<◌, ◌≤◌, List, length, Some, None, Ok, Err, refl, sym, ◌∙◌, ap, arith}
 use Rattle.std.specs.Prelude.{◌≢◌}
 use Rattle.ctw_ops.specs.declared.types.Label.{Label}
 use Rattle.ctw_ops.specs.Code.{Code, Op, opcodes}
@@ -15,7 +15,7 @@ use Rattle.ctw_valid.specs.declared.levels.Levels.{Levels}
 use Rattle.ctw_valid.specs.Scope.{scope_of_body}
 use Rattle.ctw_valid.specs.Levels.{levels_in, IsEven, IsNext}
 use Rattle.ctw_valid.specs.declared.fault.BodyFault.{BodyFault}
-use Rattle.ctw_valid.specs.declared.fault.BodyFault.TheVariants.{NoMemory}
+use Rattle.ctw_valid.specs.declared.fault.BodyFault.TheVariants.{Index, Align, Immutable, Trust, SecretPlace, WrongType, NoMemory}
 use Rattle.ctw_valid.specs.Faults.{same_label, kind_of, slots_of, unless_refused, fault_from}
 
 -- of the body's opcodes those that stand from a place on are left, and the first of the body's faults is the first of theirs
@@ -100,9 +100,22 @@ running_on a bytes place at levels after op next h lt e f n =
       going = λ code m. going_on (scope_of_body a) code bytes place at (levels_in levels) (levels_in after) op next (h.going code m) lt e f;
     }
 
+memory_or : (e : BodyFault) → (e ≡ NoMemory) ⊎ (e ≢ NoMemory)
+memory_or NoMemory = inl refl
+memory_or (Index at) = inr (λ q. cc)
+memory_or (Align at) = inr (λ q. cc)
+memory_or (Immutable at) = inr (λ q. cc)
+memory_or (Trust at) = inr (λ q. cc)
+memory_or (SecretPlace at rule) = inr (λ q. cc)
+memory_or (WrongType at) = inr (λ q. cc)
+
 pub running_refused : (a : Around) (bytes : List ℕ) (place at : ℕ) (levels : Levels) (op : Op Label) (next : ℕ) (fault : BodyFault) → Running a bytes place at levels → place < length bytes → instr_in bytes place ≡ Ok (op, next)
     → (fault ≢ NoMemory → (flat same_label (scope_of_body a) op (levels_in levels) ≡ None) × (fault ≡ kind_of (within (scope_of_body a) (levels_in levels)) op at (slots_of (levels_in levels))))
-    → (code : Code Label) → IsBody bytes code → fault ≢ NoMemory → fault_from (scope_of_body a) 0 (opcodes code) (outermost (scope_of_body a)) ≡ Some fault
-running_refused a bytes place at levels op next fault h lt e f code m n =
-    let k = f n in
-    going_refused (scope_of_body a) code bytes place at (levels_in levels) op next (h.going code m) lt e k.0 ∙ ap Some (sym k.1)
+    → (code : Code Label) → IsBody bytes code → (fault ≡ NoMemory) ⊎ (fault_from (scope_of_body a) 0 (opcodes code) (outermost (scope_of_body a)) ≡ Some fault)
+running_refused a bytes place at levels op next fault h lt e f code m =
+    elim (memory_or fault) [
+      | inl q ↦ inl q
+      | inr n ↦
+          let k = f n in
+          inr (going_refused (scope_of_body a) code bytes place at (levels_in levels) op next (h.going code m) lt e k.0 ∙ ap Some (sym k.1))
+    ]

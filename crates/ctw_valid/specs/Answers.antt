@@ -1,5 +1,5 @@
 -- What a fault of a body tells.
-use Rattle.std.specs.Prelude.{◌≡◌, ◌≢◌, ◌↔◌, ◌⊎◌, ℕ, true, List, [], ◌∷◌, map, Option, Some, None, Result, Ok, Err, IfSome, slice_get, take, Bool, false}
+use Rattle.std.specs.Prelude.{◌≡◌, ◌↔◌, ◌⊎◌, ℕ, true, List, [], ◌∷◌, map, Option, Some, None, Result, IfSome, slice_get, take, Bool, false}
 use Rattle.std.specs.List.{AllByRecursion}
 use Rattle.ctw_ops.specs.declared.types.Label.{Label}
 use Rattle.ctw_ops.specs.declared.types.Label.TheVariants.{Secret}
@@ -10,6 +10,7 @@ use Rattle.ctw_ops.specs.declared.numeric.Profile.{Profile}
 use Rattle.ctw_ops.specs.Numeric.{leaks}
 use Rattle.ctw_ops.specs.Code.{Leaf, Code, Op, Plain, Numeric, opcodes}
 use Rattle.ctw_ops.specs.Typing.{Context}
+use Rattle.ctw_ops.specs.FirstFault.{FindsFault}
 use Rattle.ctw_ops.specs.CutTyping.{StopsAt, Reaches}
 use Rattle.ctw_stack.specs.Secrets.{HasTagAt}
 use Rattle.ctw_stack.specs.Pass.{Level, within, outermost, run}
@@ -89,5 +90,4 @@ pub record Applies (C : Context Label) (code : Code Label) (fault : BodyFault) :
 
 -- the answer is the first fault of the body's opcodes, or memory ran out
 abbrev pub Checks : Context Label → Code Label → Result (Unit {0}) BodyFault → Type 0
-Checks C code (Ok u) = fault_from C 0 (opcodes code) (outermost C) ≡ None
-Checks C code (Err fault) = fault ≢ NoMemory → fault_from C 0 (opcodes code) (outermost C) ≡ Some fault
+Checks C code result = FindsFault NoMemory result (fault_from C 0 (opcodes code) (outermost C))

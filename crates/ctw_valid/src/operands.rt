@@ -99,7 +99,8 @@ fn drop_one(stack: &mut Stack<Label>, at: u32) -> Result<(), BodyFault>
 /// Takes values of a function's parameters off, the last one first.
 fn expect_params(stack: &mut Stack<Label>, params: &[u8], at: u32) -> Result<(), BodyFault>
     requires { 0 < length stack.old }
-    ensures step { Follows result (on_innermost (expects same_label (byte_types params.now)) stack.old) stack.new (WrongType at) }
+    ensures step { Follows result (on_innermost (expects same_label (byte_types params.now)) stack.old) stack.new
+        (WrongType at) }
     ensures kept { IsKept stack.old stack.new 0 }
 {
     let mut left = params.len();
@@ -114,7 +115,8 @@ fn expect_params(stack: &mut Stack<Label>, params: &[u8], at: u32) -> Result<(),
 #[inline(always)]
 fn expect_types(stack: &mut Stack<Label>, types: &Types, at: u32) -> Result<(), BodyFault>
     requires { 0 < length stack.old }
-    ensures step { Follows result (on_innermost (expects same_label (types_in types.now)) stack.old) stack.new (WrongType at) }
+    ensures step { Follows result (on_innermost (expects same_label (types_in types.now)) stack.old) stack.new
+        (WrongType at) }
     ensures kept { IsKept stack.old stack.new 0 }
 {
     match *types {
@@ -216,7 +218,8 @@ fn choose(stack: &mut Stack<Label>, label: Label, at: u32) -> Result<(), BodyFau
 #[inline(always)]
 pub fn take_index(stack: &mut Stack<Label>, rule: SecretRule, at: u32) -> Result<(), BodyFault>
     requires { 0 < length stack.old }
-    ensures step { Follows result (on_innermost (expects same_label (top_types (Some rule) None)) stack.old) stack.new (by_type at (guarded_secret (own_slots stack.old) (guarded_at (Some rule) None))) }
+    ensures step { Follows result (on_innermost (expects same_label (top_types (Some rule) None)) stack.old) stack.new
+        (by_type at (guarded_secret (own_slots stack.old) (guarded_at (Some rule) None))) }
     ensures public { OnOk result (guarded_secret (own_slots stack.old) (guarded_at (Some rule) None) ≡ None) }
     ensures kept { IsKept stack.old stack.new 0 }
 {
@@ -265,7 +268,8 @@ fn take_top(
     at: u32,
 ) -> Result<(), BodyFault>
     requires { 0 < length stack.old }
-    ensures step { Follows result (on_innermost (expects same_label (top_types index last)) stack.old) stack.new (by_type at (guarded_secret (own_slots stack.old) (guarded_at index last))) }
+    ensures step { Follows result (on_innermost (expects same_label (top_types index last)) stack.old) stack.new
+        (by_type at (guarded_secret (own_slots stack.old) (guarded_at index last))) }
     ensures public { OnOk result (guarded_secret (own_slots stack.old) (guarded_at index last) ≡ None) }
     ensures kept { IsKept stack.old stack.new 0 }
 {
@@ -321,7 +325,8 @@ fn move_rest(stack: &mut Stack<Label>, row: &Move, at: u32) -> Result<(), BodyFa
 fn move_values(stack: &mut Stack<Label>, row: &Move, at: u32) -> Result<(), BodyFault>
     requires open { 0 < length stack.old }
     requires few { slot_count stack.old < 2 ^ 32 - 1 }
-    ensures step { Follows result (on_innermost (move_all row.now) stack.old) stack.new (by_type at (guarded_secret (own_slots stack.old) (guarded_at row.now.index row.now.last))) }
+    ensures step { Follows result (on_innermost (move_all row.now) stack.old) stack.new
+        (by_type at (guarded_secret (own_slots stack.old) (guarded_at row.now.index row.now.last))) }
     ensures kept { IsKept stack.old stack.new 1 }
 {
     take_top(stack, row.index, row.last, at)?;
@@ -352,7 +357,8 @@ fn select(stack: &mut Stack<Label>, label: Label, at: u32) -> Result<(), BodyFau
 #[inline(always)]
 pub fn apply(stack: &mut Stack<Label>, row: &Row, at: u32) -> Result<(), BodyFault>
     requires { slot_count stack.old < 2 ^ 32 - 1 }
-    ensures step { Follows result (on_innermost (row_step row.now) stack.old) stack.new (row_fault row.now at (own_slots stack.old)) }
+    ensures step { Follows result (on_innermost (row_step row.now) stack.old) stack.new
+        (row_fault row.now at (own_slots stack.old)) }
     ensures kept { IsKept stack.old stack.new 1 }
 {
     if stack.innermost().is_none() {

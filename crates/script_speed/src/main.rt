@@ -1,5 +1,5 @@
-// Reads scripts of 1 MiB and makes event lines, for bench/script to measure. The words are how many times the script is
-// read, how many times a million event lines are made, and the lines that the script repeats.
+//! Reads scripts of 1 MiB and makes event lines, for bench/script to measure. The words are how many times the script
+//! is read, how many times a million event lines are made, and the lines that the script repeats.
 #![tactic(auto)]
 
 ghost use Rattle.std.specs.Prelude.{◌<◌, ◌^◌, length};

@@ -1,5 +1,5 @@
-// Stores and loads of 4 bytes over a memory of 4,096 pages, for bench/store to measure. The two words are the number of
-// passes that store and the number of passes that load.
+//! Stores and loads of 4 bytes over a memory of 4,096 pages, for bench/store to measure. The two words are the number
+//! of passes that store and the number of passes that load.
 #![tactic(auto)]
 
 ghost use Rattle.std.specs.Prelude.{◌≡◌, ◌≤◌, ◌<◌, length, IfOk};

@@ -1,7 +1,7 @@
 use Rattle.std.proofs.Common.{arith}
 use Rattle.ctw_module.specs.Trees.{tree}
 use Rattle.ctw_link.proofs.OwnerLists.{owned_none, owned_more, owned_all}
-use Rattle.ctw_link.proofs.IndexSpaces.{functions_count}
+use Rattle.ctw_module.proofs.IndexSpaces.{functions_count}
 use Rattle.ctw_link.proofs.bodies.push_owners.Goals as goal
 
 pub functions-init : goal.functions-init

@@ -1,7 +1,7 @@
 use Rattle.std.proofs.Common.{arith}
 use Rattle.std.proofs.lemmas.Result.{err_from_is_err_and}
 use Rattle.ctw_module.specs.Trees.{view_module}
-use Rattle.ctw_modcheck.proofs.Counts.{functions_count}
+use Rattle.ctw_module.proofs.IndexSpaces.{functions_count}
 use Rattle.ctw_modcheck.proofs.Loops.{reached_none}
 use Rattle.ctw_modcheck.proofs.BodyChecks.{defined_at, bodies_more, bodies_fail, bodies_all}
 use Rattle.ctw_modcheck.proofs.bodies.check_bodies.Goals as goal

@@ -1,7 +1,7 @@
 use Rattle.std.proofs.Common.{arith}
 use Rattle.std.proofs.lemmas.Result.{err_from_is_err_and}
 use Rattle.ctw_module.specs.Trees.{tree}
-use Rattle.ctw_modcheck.proofs.Counts.{functions_count}
+use Rattle.ctw_module.proofs.IndexSpaces.{functions_count}
 use Rattle.ctw_modcheck.proofs.Loops.{reached_none, reached_more, reached_fault, reached_all}
 use Rattle.ctw_modcheck.proofs.functions.check_functions.Goals as goal
 

@@ -10,7 +10,8 @@ use Rattle.ctw_step.specs.Shown.{shown}
 use Rattle.ctw_step.specs.Stands.{numbers}
 use Rattle.ctw_step.specs.Told.{with_operands}
 use Rattle.ctw_step.proofs.Inside.{under}
-use Rattle.ctw_step.proofs.MemoryLaws.{load_met, load_done, memory_within, read_below}
+use Rattle.ctw_semantics.proofs.SoundStores.{read_below}
+use Rattle.ctw_step.proofs.MemoryLaws.{load_met, load_done, memory_within}
 use Rattle.ctw_step.proofs.memory.load.Goals as goal
 
 pub top_small-requires : goal.top_small-requires

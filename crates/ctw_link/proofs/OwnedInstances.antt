@@ -3,7 +3,7 @@ use Rattle.std.proofs.Common.{◌≡◌, ℕ, ◌+◌, ◌-◌, Bool, false, Lis
 use Rattle.std.specs.Prelude.{if◌then◌else◌}
 use Rattle.std.specs.List.{range_with_len}
 use Rattle.std.proofs.lemmas.Bool.Decides.{nat_tests}
-use Rattle.std.proofs.lemmas.List.{map-append, length_push}
+use Rattle.std.proofs.lemmas.List.{map-append, length_push, length-map}
 use Rattle.std.proofs.lemmas.Option.{slice_get-map}
 use Rattle.ctw_ops.specs.declared.types.Label.{Label}
 use Rattle.ctw_ops.specs.Tree.{Module, Function}
@@ -14,7 +14,7 @@ use Rattle.ctw_link.specs.Sets.{ModuleSet}
 use Rattle.ctw_link.specs.Numbers.{LinkedModule, linked, owned, owners_from, owners}
 use Rattle.ctw_link.specs.SetInstances.{module_instance, instances_in, set_instances, instance_at}
 use Rattle.ctw_link.proofs.LinkedFronts.{bare, bare_linked}
-use Rattle.ctw_launch.proofs.Pairs.{skipped}
+use Rattle.ctw_link.proofs.Lists.{skipped}
 
 named_at : (m : Module Label) (front rest : List (Function Label)) (f : Function Label) (index : ℕ) → m.functions ≡ front ++ f ∷ rest → index ≡ imported_count m + length front → function_named m index ≡ Some f
 named_at m front rest f index e n =
@@ -58,3 +58,9 @@ owner_instance set f owner e =
     go : (o : Option FunctionInstance) (x : Option FunctionInstance) → ◌≡◌ {A = Option (Option FunctionInstance)} (Some x) (option_map (λ (fn : FunctionInstance). Some fn) o) → o ≡ x
     go None x q = absurd cc
     go (Some fn) x q = cc
+
+pub instances_count : (set : ModuleSet) → length (set_instances set) ≡ length (owners set)
+instances_count set =
+    let all : map (instance_at (linked set)) (owners set) ≡ map (λ (fn : FunctionInstance). Some fn) (set_instances set) =
+    ap (λ (l : ModuleSet). map (instance_at (linked set)) (owners_from 0 l)) (sym (bare_linked set)) ∙ all_owned (linked set) [] (linked set) 0 refl refl in
+    sym (length-map (set_instances set) (λ (fn : FunctionInstance). Some fn)) ∙ ap length (sym all) ∙ length-map (owners set) (instance_at (linked set))
