@@ -79,7 +79,7 @@ pub record Canonical (bytes : List ℕ) (m : Module Label) : Type 0 where
   pub spelled : Spells (canon m) m
   pub shorter : length (canon m) ≤ length bytes
 
-eight : (ct : Bool) → length (magic ++ version ct) ≡ 8
+pub eight : (ct : Bool) → length (magic ++ version ct) ≡ 8
 eight false = refl
 eight true = refl
 

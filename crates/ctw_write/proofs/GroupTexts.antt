@@ -101,7 +101,7 @@ grown_length n t (g ∷ groups) = go (same_type t g.type)
     go true = omega arith
     go false = omega arith
 
-fewer : (groups : List Group) → length (fewest groups) ≤ length groups
+pub fewer : (groups : List Group) → length (fewest groups) ≤ length groups
 fewer [] = omega arith
 fewer (g ∷ groups) = go g.count g.type (fewer groups)
   where
@@ -109,7 +109,7 @@ fewer (g ∷ groups) = go g.count g.type (fewer groups)
     go zero t le = omega arith
     go (suc n) t le = omega (arith, ap length (grown_is n t (locals_of groups)), grown_length n t (fewest groups))
 
-abbrev cost : List Group → ℕ
+abbrev pub cost : List Group → ℕ
 cost groups = length (all_texts group_text groups)
 
 grown_cost : (n : ℕ) (t : ValueType Label) (groups : List Group) → cost (grown n t groups) ≤ length (group_text (record { count = suc n; type = t })) + cost groups
@@ -129,7 +129,7 @@ grown_cost n t (g ∷ groups) = go (same_type t g.type)
     )
     go false = omega (arith, length-append (group_text (record { count = suc n; type = t })) (all_texts group_text (g ∷ groups)))
 
-cheaper : (groups : List Group) → cost (fewest groups) ≤ cost groups
+pub cheaper : (groups : List Group) → cost (fewest groups) ≤ cost groups
 cheaper [] = omega arith
 cheaper (g ∷ groups) = omega (arith, go g.count g.type (cheaper groups), length-append (group_text g) (all_texts group_text groups))
   where

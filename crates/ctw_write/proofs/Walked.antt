@@ -11,35 +11,35 @@ use Rattle.ctw_flat.specs.Read.{op_at}
 use Rattle.ctw_flat.proofs.Ops.{exact_op}
 use Rattle.ctw_flat.proofs.Places.{one_body}
 use Rattle.ctw_write.proofs.Pieces.{nil_cons}
-use Rattle.ctw_write.specs.Canon.{all_texts, op_text, body_text}
+use Rattle.ctw_write.specs.Canon.{all_texts, op_text}
 
 -- ---- opcodes
 
 -- the opcodes that are left, and what is written, with their texts, is the whole
-pub record OpsAhead (bytes : List ℕ) (at : ℕ) (written start : List ℕ) : Type 0 where
+pub record OpsAhead (w : Op Label → List ℕ) (bytes : List ℕ) (at : ℕ) (written start : List ℕ) : Type 0 where
   pub code : Code Label
   pub body : IsBody bytes code
   pub ops : List (Op Label)
   pub spelled : IsOps (drop at bytes) ops
-  pub together : written ++ all_texts op_text ops ≡ start ++ body_text code
+  pub together : written ++ all_texts w ops ≡ start ++ all_texts w (opcodes code)
   pub within : at ≤ length bytes
 
-pub ops_begin : (bytes start : List ℕ) (code : Code Label) → IsBody bytes code → OpsAhead bytes 0 start start
-ops_begin bytes start code m = record { code = code; body = m; ops = opcodes code; spelled = m; together = refl; within = omega arith }
+pub ops_begin : (w : Op Label → List ℕ) (bytes start : List ℕ) (code : Code Label) → IsBody bytes code → OpsAhead w bytes 0 start start
+ops_begin w bytes start code m = record { code = code; body = m; ops = opcodes code; spelled = m; together = refl; within = omega arith }
 
 -- one more of them
-pub record OpAhead (bytes : List ℕ) (at : ℕ) (written start : List ℕ) : Type 0 where
+pub record OpAhead (w : Op Label → List ℕ) (bytes : List ℕ) (at : ℕ) (written start : List ℕ) : Type 0 where
   pub op : Op Label
   pub text : List ℕ
   pub after : List ℕ
   pub spelled : IsOp text op
   pub front : drop at bytes ≡ text ++ after
-  pub next : (then : List ℕ) → then ≡ written ++ op_text op → OpsAhead bytes (at + length text) then start
+  pub next : (then : List ℕ) → then ≡ written ++ w op → OpsAhead w bytes (at + length text) then start
 
-pub op_ahead : (bytes : List ℕ) (at : ℕ) (written start : List ℕ) → at < length bytes → OpsAhead bytes at written start → OpAhead bytes at written start
-op_ahead bytes at written start lt h = go h.ops h.spelled h.together
+pub op_ahead : (w : Op Label → List ℕ) (bytes : List ℕ) (at : ℕ) (written start : List ℕ) → at < length bytes → OpsAhead w bytes at written start → OpAhead w bytes at written start
+op_ahead w bytes at written start lt h = go h.ops h.spelled h.together
   where
-    go : (ops : List (Op Label)) → IsOps (drop at bytes) ops → written ++ all_texts op_text ops ≡ start ++ body_text h.code → OpAhead bytes at written start
+    go : (ops : List (Op Label)) → IsOps (drop at bytes) ops → written ++ all_texts w ops ≡ start ++ all_texts w (opcodes h.code) → OpAhead w bytes at written start
     go [] m e = absurd (omega (arith, ap length m, length-drop at bytes))
     go (op ∷ ops) m e =
         let rest : drop (at + length m.0) bytes ≡ m.1 = sym (drop-drop (length m.0) at bytes) ∙ ap (drop (length m.0)) m.4 ∙ drop_at m.0 m.1 (length m.0) refl in
@@ -55,31 +55,31 @@ op_ahead bytes at written start lt h = go h.ops h.spelled h.together
             body = h.body;
             ops = ops;
             spelled = subst (λ (l : List ℕ). IsOps l ops) (sym rest) m.3;
-            together = ap (λ (l : List ℕ). l ++ all_texts op_text ops) q ∙ append_assoc written (op_text op) (all_texts op_text ops) ∙ e;
+            together = ap (λ (l : List ℕ). l ++ all_texts w ops) q ∙ append_assoc written (w op) (all_texts w ops) ∙ e;
             within = omega arith;
           };
         }
 
 -- what was read there is that opcode
-pub op_read : (bytes : List ℕ) (at : ℕ) (written start : List ℕ) (h : OpAhead bytes at written start) (text after : List ℕ) (op : Op Label) → IsOp text op → drop at bytes ≡ text ++ after → (text ≡ h.text) × (op ≡ h.op)
-op_read bytes at written start h text after op m e = one_spelling IsOp op_at exact_op text h.text after h.after op h.op m h.spelled (sym e ∙ h.front)
+pub op_read : (w : Op Label → List ℕ) (bytes : List ℕ) (at : ℕ) (written start : List ℕ) (h : OpAhead w bytes at written start) (text after : List ℕ) (op : Op Label) → IsOp text op → drop at bytes ≡ text ++ after → (text ≡ h.text) × (op ≡ h.op)
+op_read w bytes at written start h text after op m e = one_spelling IsOp op_at exact_op text h.text after h.after op h.op m h.spelled (sym e ∙ h.front)
 
-pub ops_next : (bytes : List ℕ) (at next : ℕ) (written start then text after : List ℕ) (op : Op Label) → (h : OpAhead bytes at written start) → IsOp text op → drop at bytes ≡ text ++ after → next ≡ at + length text → then ≡ written ++ op_text op → OpsAhead bytes next then start
-ops_next bytes at next written start then text after op h m e n w =
-    let r = op_read bytes at written start h text after op m e in
+pub ops_next : (w : Op Label → List ℕ) (bytes : List ℕ) (at next : ℕ) (written start then text after : List ℕ) (op : Op Label) → (h : OpAhead w bytes at written start) → IsOp text op → drop at bytes ≡ text ++ after → next ≡ at + length text → then ≡ written ++ w op → OpsAhead w bytes next then start
+ops_next w bytes at next written start then text after op h m e n q =
+    let r = op_read w bytes at written start h text after op m e in
     let place : at + length h.text ≡ next = ap (λ (l : List ℕ). at + length l) (sym r.0) ∙ sym n in
-    subst (λ (k : ℕ). OpsAhead bytes k then start) place (h.next then (w ∙ ap (λ (o : Op Label). written ++ op_text o) r.1))
+    subst (λ (k : ℕ). OpsAhead w bytes k then start) place (h.next then (q ∙ ap (λ (o : Op Label). written ++ w o) r.1))
 
 op_filled : (x y : List ℕ) (op : Op Label) → IsOp x op → [] ≡ x ++ y → ⊥
 op_filled x y op m e =
     let first : [] ≡ m.3.0 ∷ (m.2 ++ y) = e ∙ ap (λ (l : List ℕ). l ++ y) m.5 ∙ ap (λ (l : List ℕ). (l ++ m.2) ++ y) m.3.1 in
     nil_cons m.3.0 (m.2 ++ y) (sym first)
 
-pub ops_end : (bytes : List ℕ) (at : ℕ) (written start : List ℕ) → length bytes ≤ at → OpsAhead bytes at written start → (code : Code Label) → IsBody bytes code → written ≡ start ++ body_text code
-ops_end bytes at written start le h code m = go h.ops h.spelled h.together
+pub ops_end : (w : Op Label → List ℕ) (bytes : List ℕ) (at : ℕ) (written start : List ℕ) → length bytes ≤ at → OpsAhead w bytes at written start → (code : Code Label) → IsBody bytes code → written ≡ start ++ all_texts w (opcodes code)
+ops_end w bytes at written start le h code m = go h.ops h.spelled h.together
   where
-    go : (ops : List (Op Label)) → IsOps (drop at bytes) ops → written ++ all_texts op_text ops ≡ start ++ body_text h.code → written ≡ start ++ body_text code
-    go [] q e = sym (append-nil written) ∙ e ∙ ap (λ (c : Code Label). start ++ body_text c) (one_body bytes h.code code h.body m)
+    go : (ops : List (Op Label)) → IsOps (drop at bytes) ops → written ++ all_texts w ops ≡ start ++ all_texts w (opcodes h.code) → written ≡ start ++ all_texts w (opcodes code)
+    go [] q e = sym (append-nil written) ∙ e ∙ ap (λ (c : Code Label). start ++ all_texts w (opcodes c)) (one_body bytes h.code code h.body m)
     go (op ∷ ops) q e = absurd (op_filled q.0 q.1 op q.2 (sym (drop_all at bytes le) ∙ q.4))
 
 -- what is written after an answer Ok

@@ -7,7 +7,7 @@ ghost use Rattle.ctw_leb.specs.Numbers.{IsU32};
 ghost use Rattle.ctw_leb.specs.Spelling.{u32_text};
 ghost use Rattle.ctw_flat.specs.Opcodes.{opcode_byte};
 ghost use Rattle.ctw_flat.specs.declared.opcode.Form.TheVariants as form;
-ghost use Rattle.ctw_flat.specs.Spelled.{IsOp, IsBody};
+ghost use Rattle.ctw_flat.specs.Spelled.{IsBody};
 ghost use Rattle.ctw_flat.specs.Instructions.{op_of, targets_in, IsExactly};
 ghost use Rattle.ctw_write.specs.Canon.{all_texts, in_form, bits_text, block_type_byte, op_text, body_text};
 ghost use Rattle.ctw_ops.specs.Types.{FitsWidth};
@@ -39,7 +39,7 @@ fn put_opcode(out: &mut Vec<u8>, form: Form) -> Result<(), AllocError>
 
 /// An opcode with its prefix, if it is secret.
 #[inline(always)]
-fn put_form(out: &mut Vec<u8>, label: Label, form: Form) -> Result<(), AllocError>
+pub fn put_form(out: &mut Vec<u8>, label: Label, form: Form) -> Result<(), AllocError>
     ensures { OnOk result (out.new.items ≡ out.old.items ++ in_form label (opcode_byte form ∷ [])) }
 {
     if label == Label::Secret {
@@ -67,7 +67,7 @@ fn put_reserved(out: &mut Vec<u8>, form: Form) -> Result<(), AllocError>
 
 /// An opcode that opens a block, with the type of its result.
 #[inline(always)]
-fn put_block(
+pub fn put_block(
     out: &mut Vec<u8>,
     opener: Opener,
     result_type: Option<ValType>,
@@ -84,7 +84,7 @@ fn put_block(
 
 /// A load or a store.
 #[inline(always)]
-fn put_access(
+pub fn put_access(
     out: &mut Vec<u8>,
     label: Label,
     access: Access,
@@ -111,16 +111,12 @@ fn put_bits(out: &mut Vec<u8>, width: Width, bits: u64) -> Result<(), AllocError
     }
 }
 
-/// A constant.
+/// A constant, whose bits fit its width.
 #[inline(always)]
-pub(crate) fn put_const(
-    out: &mut Vec<u8>,
-    width: Width,
-    label: Label,
-    bits: u64,
-) -> Result<(), AllocError>
+pub fn put_const(out: &mut Vec<u8>, width: Width, label: Label, bits: u64) -> Result<(), AllocError>
     requires { FitsWidth width bits }
-    ensures { OnOk result (out.new.items ≡ out.old.items ++ in_form label (opcode_byte (form.Const width) ∷ bits_text width bits)) }
+    ensures { OnOk result (out.new.items ≡ out.old.items
+        ++ in_form label (opcode_byte (form.Const width) ∷ bits_text width bits)) }
 {
     put_form(out, label, Form::Const(width))?;
     put_bits(out, width, bits)
@@ -153,10 +149,9 @@ fn put_branch_table(
     put_u32(out, otherwise)
 }
 
-/// An instruction.
-fn put_instr(out: &mut Vec<u8>, instr: &Instr) -> Result<(), AllocError>
-    requires spelled { (text : List ℕ) × IsOp text (op_of instr.now) }
-    requires exactly { IsExactly instr.now }
+/// An instruction as a walk gives it.
+pub fn put_instr(out: &mut Vec<u8>, instr: &Instr) -> Result<(), AllocError>
+    requires { IsExactly instr.now }
     ensures { OnOk result (out.new.items ≡ out.old.items ++ op_text (op_of instr.now)) }
 {
     match *instr {

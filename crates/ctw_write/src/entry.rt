@@ -21,7 +21,7 @@ use std::alloc::{AllocError, Global};
 
 /// A run of equal locals that isn't written yet, behind groups that are.
 #[derive(Clone, Copy, Debug, PartialEq, Eq)]
-pub(crate) struct Run {
+pub struct Run {
     /// How many groups are written.
     pub groups: u32,
     /// How many locals the run has.
@@ -31,7 +31,7 @@ pub(crate) struct Run {
 }
 
 /// A group of so many locals.
-fn put_group(out: &mut Vec<u8>, count: u32, ty: ValType) -> Result<(), AllocError>
+pub fn put_group(out: &mut Vec<u8>, count: u32, ty: ValType) -> Result<(), AllocError>
     ensures { OnOk result (out.new.items ≡ out.old.items ++ group_text (group_of count ty)) }
 {
     put_u32(out, count)?;
@@ -39,8 +39,9 @@ fn put_group(out: &mut Vec<u8>, count: u32, ty: ValType) -> Result<(), AllocErro
     Ok(())
 }
 
-/// One local behind a run: it belongs to it, or the run is written and a new one begins.
-fn with_local(out: &mut Vec<u8>, run: Run, ty: ValType) -> Result<Run, AllocError>
+/// One local behind a run: it belongs to it, or the run is written and a new one begins. So many groups and locals are
+/// fewer than 2^32.
+pub fn with_local(out: &mut Vec<u8>, run: Run, ty: ValType) -> Result<Run, AllocError>
     requires some { 0 < run.count }
     requires room { run.groups + run.count + 1 < 2 ^ 32 }
     ensures ahead { (whole : List Group) (types : List (ValueType Label)) → Ahead whole out.old.items run (ty ∷ types)
@@ -68,8 +69,8 @@ fn with_local(out: &mut Vec<u8>, run: Run, ty: ValType) -> Result<Run, AllocErro
     })
 }
 
-/// How many parameters a function has; none where its type index names no entry.
-fn param_count(m: &Module, f: u32) -> u32
+/// How many parameters a defined function has; none where its type index names no entry.
+pub fn param_count(m: &Module, f: u32) -> u32
     requires there { f < length (function_entries (tree m.now)) }
     requires short { length (canon (tree m.now)) < 2 ^ 32 }
     ensures { (function : Function Label) → function_named (tree m.now) f ≡ Some function
@@ -83,8 +84,8 @@ fn param_count(m: &Module, f: u32) -> u32
     params_of(&ty)
 }
 
-/// How many parameters a type has.
-fn params_of(ty: &FuncType) -> u32
+/// How many parameters a type has; they are fewer than 2^32.
+pub fn params_of(ty: &FuncType) -> u32
     requires { length ty.now.params < 2 ^ 32 }
     ensures { result ≡ length ty.now.params }
 {

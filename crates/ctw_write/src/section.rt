@@ -1,4 +1,5 @@
-//! Appending the sections of a module but code. Where memory runs out, some bytes may be there.
+//! Appending the sections of a module but code. Where memory runs out, some bytes may be there. The canonical spelling of
+//! the module is shorter than 2^32 bytes, and so is each section then.
 ghost use Rattle.std.specs.Prelude.{◌≡◌, ◌+◌, ◌<◌, ◌^◌, ◌++◌, ◌∷◌, [], ℕ, length, List, slice_get, map, option_map, Some, OnOk, All};
 ghost use Rattle.ctw_ops.specs.declared.types.Label.{Label};
 ghost use Rattle.ctw_ops.specs.Tree.{Global as TreeGlobal, Element as TreeElement, Segment as TreeSegment, Custom as TreeCustom};
@@ -184,8 +185,8 @@ fn put_placed(
     }
 }
 
-/// The custom sections of a place.
-pub(crate) fn put_customs(
+/// The custom sections of a place, which is below 12.
+pub fn put_customs(
     alloc: Global,
     out: &mut Vec<u8>,
     m: &Module,
@@ -245,7 +246,7 @@ pub(crate) fn put_uses(alloc: Global, out: &mut Vec<u8>, m: &Module) -> Result<(
 }
 
 /// The section of the defined table, if there is one.
-pub(crate) fn put_tables(alloc: Global, out: &mut Vec<u8>, m: &Module) -> Result<(), AllocError>
+pub fn put_tables(alloc: Global, out: &mut Vec<u8>, m: &Module) -> Result<(), AllocError>
     requires { length (canon (tree m.now)) < 2 ^ 32 }
     ensures { OnOk result (out.new.items ≡ out.old.items ++ items_text 4 table_text (optional (tree m.now).table)) }
 {
@@ -291,7 +292,7 @@ pub(crate) fn put_globals(alloc: Global, out: &mut Vec<u8>, m: &Module) -> Resul
 }
 
 /// The section of exports, if there are some.
-pub(crate) fn put_exports(alloc: Global, out: &mut Vec<u8>, m: &Module) -> Result<(), AllocError>
+pub fn put_exports(alloc: Global, out: &mut Vec<u8>, m: &Module) -> Result<(), AllocError>
     requires { length (canon (tree m.now)) < 2 ^ 32 }
     ensures { OnOk result (out.new.items ≡ out.old.items ++ items_text 7 export_text (tree m.now).exports) }
 {
@@ -304,7 +305,7 @@ pub(crate) fn put_exports(alloc: Global, out: &mut Vec<u8>, m: &Module) -> Resul
 }
 
 /// The section of the start function, if there is one.
-pub(crate) fn put_start(alloc: Global, out: &mut Vec<u8>, m: &Module) -> Result<(), AllocError>
+pub fn put_start(alloc: Global, out: &mut Vec<u8>, m: &Module) -> Result<(), AllocError>
     requires { length (canon (tree m.now)) < 2 ^ 32 }
     ensures { OnOk result (out.new.items ≡ out.old.items ++ start_text (tree m.now).start) }
 {

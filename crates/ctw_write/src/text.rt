@@ -1,6 +1,7 @@
 //! Appending what the parts of a module are spelled by. Where memory runs out, some bytes may be there.
 ghost use Rattle.std.specs.Prelude.{◌≡◌, ◌<◌, ◌^◌, ◌++◌, ◌∷◌, [], ℕ, List, length, OnOk, OnErr};
 ghost use Rattle.ctw_ops.specs.Types.{type_byte};
+ghost use Rattle.ctw_ops.specs.Typing.{optional};
 ghost use Rattle.ctw_leb.specs.Spelling.{u32_text};
 ghost use Rattle.ctw_form.specs.Spelled.{export_of, global_of};
 ghost use Rattle.ctw_form.specs.Shown.{constant_of};
@@ -15,8 +16,8 @@ use ctw_module::{ConstExpr, Element, ExternKind, Import, Segment};
 use ctw_ops::{ExternTag, FuncType, GlobalType, Label, Limits, MemType, Trust, ValType, Width};
 use std::alloc::AllocError;
 
-/// Bytes behind their size.
-pub(crate) fn put_sized(out: &mut Vec<u8>, bytes: &[u8]) -> Result<(), AllocError>
+/// Bytes behind their size; they are fewer than 2^32.
+pub fn put_sized(out: &mut Vec<u8>, bytes: &[u8]) -> Result<(), AllocError>
     requires { length bytes.now < 2 ^ 32 }
     ensures put { OnOk result (out.new.items ≡ out.old.items ++ sized_text bytes.now) }
     ensures part { OnErr result ((part : List ℕ) × (out.new.items ≡ out.old.items ++ part)) }
@@ -25,8 +26,8 @@ pub(crate) fn put_sized(out: &mut Vec<u8>, bytes: &[u8]) -> Result<(), AllocErro
     out.extend_from_slice(bytes)
 }
 
-/// A section with these contents.
-pub(crate) fn put_section(out: &mut Vec<u8>, id: u8, contents: &[u8]) -> Result<(), AllocError>
+/// A section with these contents, which are shorter than 2^32 bytes.
+pub fn put_section(out: &mut Vec<u8>, id: u8, contents: &[u8]) -> Result<(), AllocError>
     requires { length contents.now < 2 ^ 32 }
     ensures put { OnOk result (out.new.items ≡ out.old.items ++ section_text id contents.now) }
     ensures part { OnErr result ((part : List ℕ) × (out.new.items ≡ out.old.items ++ part)) }
@@ -53,7 +54,7 @@ fn put_limits(out: &mut Vec<u8>, alone: u8, both: u8, limits: Limits) -> Result<
 }
 
 /// A table's type.
-pub(crate) fn put_table(out: &mut Vec<u8>, limits: Limits) -> Result<(), AllocError>
+pub fn put_table(out: &mut Vec<u8>, limits: Limits) -> Result<(), AllocError>
     ensures { OnOk result (out.new.items ≡ out.old.items ++ table_text limits) }
 {
     out.push(0x70)?;
@@ -61,7 +62,7 @@ pub(crate) fn put_table(out: &mut Vec<u8>, limits: Limits) -> Result<(), AllocEr
 }
 
 /// A memory's type.
-pub(crate) fn put_memory(out: &mut Vec<u8>, ty: MemType) -> Result<(), AllocError>
+pub fn put_memory(out: &mut Vec<u8>, ty: MemType) -> Result<(), AllocError>
     ensures { OnOk result (out.new.items ≡ out.old.items ++ memory_text ty) }
 {
     match ty.label {
@@ -71,7 +72,7 @@ pub(crate) fn put_memory(out: &mut Vec<u8>, ty: MemType) -> Result<(), AllocErro
 }
 
 /// A global's type.
-pub(crate) fn put_variable(out: &mut Vec<u8>, ty: GlobalType) -> Result<(), AllocError>
+pub fn put_variable(out: &mut Vec<u8>, ty: GlobalType) -> Result<(), AllocError>
     ensures { OnOk result (out.new.items ≡ out.old.items ++ variable_text ty) }
 {
     out.push(byte_of_type(ty.value))?;
@@ -85,7 +86,14 @@ fn put_signature(out: &mut Vec<u8>, ty: &FuncType) -> Result<(), AllocError>
     ensures { OnOk result (out.new.items ≡ out.old.items ++ signature_text ty.now) }
 {
     put_params(out, ty)?;
-    match ty.result {
+    put_result(out, ty.result)
+}
+
+/// The result of a type, behind the count 0 or 1.
+pub fn put_result(out: &mut Vec<u8>, ty: Option<ValType>) -> Result<(), AllocError>
+    ensures { OnOk result (out.new.items ≡ out.old.items ++ vector_text type_text (optional ty)) }
+{
+    match ty {
         None => put_u32(out, 0),
         Some(t) => {
             put_u32(out, 1)?;
@@ -206,8 +214,8 @@ pub(crate) fn put_export(
     put_u32(out, index)
 }
 
-/// A constant expression.
-pub(crate) fn put_constant(out: &mut Vec<u8>, value: ConstExpr) -> Result<(), AllocError>
+/// A constant expression, whose number fits its width.
+pub fn put_constant(out: &mut Vec<u8>, value: ConstExpr) -> Result<(), AllocError>
     requires { IsFitting (constant_of value) }
     ensures { OnOk result (out.new.items ≡ out.old.items ++ constant_text (constant_of value)) }
 {
@@ -222,12 +230,8 @@ pub(crate) fn put_constant(out: &mut Vec<u8>, value: ConstExpr) -> Result<(), Al
     Ok(())
 }
 
-/// A defined global.
-pub(crate) fn put_global(
-    out: &mut Vec<u8>,
-    ty: GlobalType,
-    init: ConstExpr,
-) -> Result<(), AllocError>
+/// A defined global, whose initial number fits its width.
+pub fn put_global(out: &mut Vec<u8>, ty: GlobalType, init: ConstExpr) -> Result<(), AllocError>
     requires { IsFitting (constant_of init) }
     ensures { OnOk result (out.new.items ≡ out.old.items ++ global_text (global_of ty (constant_of init))) }
 {
@@ -235,9 +239,9 @@ pub(crate) fn put_global(
     put_constant(out, init)
 }
 
-/// A data segment, whose spelling is shorter than 2^32 bytes.
+/// A data segment, whose spelling is shorter than 2^32 bytes and whose offset fits its width.
 #[tactic(auto, using(crate::proofs::Shorter::segment_short))]
-pub(crate) fn put_segment(out: &mut Vec<u8>, segment: &Segment) -> Result<(), AllocError>
+pub fn put_segment(out: &mut Vec<u8>, segment: &Segment) -> Result<(), AllocError>
     requires fits { IsFitting segment.now.offset }
     requires short { length (segment_text segment.now) < 2 ^ 32 }
     ensures { OnOk result (out.new.items ≡ out.old.items ++ segment_text segment.now) }
@@ -258,7 +262,7 @@ pub(crate) fn put_element(out: &mut Vec<u8>, element: &Element) -> Result<(), Al
 }
 
 /// The functions of an element behind their count.
-fn put_functions(out: &mut Vec<u8>, element: &Element) -> Result<(), AllocError>
+pub fn put_functions(out: &mut Vec<u8>, element: &Element) -> Result<(), AllocError>
     ensures { OnOk result (out.new.items ≡ out.old.items ++ vector_text u32_text element.now.functions) }
 {
     let count = element.count();

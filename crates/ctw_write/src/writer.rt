@@ -54,7 +54,7 @@ impl ModuleWriter {
 }
 
 /// Appends the magic and the version.
-pub(crate) fn put_header(out: &mut Vec<u8>, ct: bool) -> Result<(), AllocError>
+pub fn put_header(out: &mut Vec<u8>, ct: bool) -> Result<(), AllocError>
     ensures { OnOk result (out.new.items ≡ out.old.items ++ magic ++ version ct) }
 {
     out.extend_from_slice(b"\0asm")?;

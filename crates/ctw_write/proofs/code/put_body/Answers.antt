@@ -4,6 +4,7 @@ use Rattle.ctw_flat.specs.declared.fault.CodeFault.{CodeFault}
 use Rattle.ctw_flat.specs.Spelled.{IsBody}
 use Rattle.ctw_flat.specs.Instructions.{op_of}
 use Rattle.ctw_flat.proofs.Places.{instr_behind, instr_spelled, spelled_instr}
+use Rattle.ctw_write.specs.Canon.{op_text}
 use Rattle.ctw_write.proofs.Walked.{ops_begin, op_ahead, ops_next, ops_end}
 use Rattle.ctw_write.proofs.code.put_body.Goals as goal
 
@@ -12,19 +13,14 @@ opcodes-init c =
     let own = subst (λ (l : List ℕ). IsBody l c.requires.0) (sym c.new-walk.ensures.bytes) c.requires.1 in
     record {
       bytes = c.new-walk.ensures.bytes;
-      ahead = rw c.new-walk.ensures.place (ops_begin c.new-walk.result.bytes c.args.out.now.items c.requires.0 own);
+      ahead = rw c.new-walk.ensures.place (ops_begin op_text c.new-walk.result.bytes c.args.out.now.items c.requires.0 own);
     }
-
-pub put_instr-requires-clause-spelled : goal.put_instr-requires-clause-spelled
-put_instr-requires-clause-spelled c =
-    let s = instr_spelled c.opcodes.walk.bytes c.opcodes.walk.place (op_of c.in-Ok.instr) c.next.new.self.place c.in-Ok.ensures.instr in
-    (s.0, s.2)
 
 pub unreachable-requires : goal.unreachable-requires
 unreachable-requires c =
     let bytes = c.opcodes.walk.bytes in
     let at = c.opcodes.walk.place in
-    let h = op_ahead bytes at c.opcodes.out.items c.args.out.now.items (c.opcodes-test.ensures.more refl) c.opcodes.invariant.ahead in
+    let h = op_ahead op_text bytes at c.opcodes.out.items c.args.out.now.items (c.opcodes-test.ensures.more refl) c.opcodes.invariant.ahead in
     let found = spelled_instr bytes at h.text h.after h.op h.spelled h.front in
     ok_err {F = CodeFault} (h.op, at + length h.text) c.in-Err.field-0 (sym found ∙ c.in-Err.ensures.instr)
 
@@ -38,14 +34,14 @@ pub opcodes-preserved : goal.opcodes-preserved
 opcodes-preserved c =
     let bytes = c.opcodes.walk.bytes in
     let at = c.opcodes.walk.place in
-    let h = op_ahead bytes at c.opcodes.out.items c.args.out.now.items (c.opcodes-test.ensures.more refl) c.opcodes.invariant.ahead in
+    let h = op_ahead op_text bytes at c.opcodes.out.items c.args.out.now.items (c.opcodes-test.ensures.more refl) c.opcodes.invariant.ahead in
     let s = instr_spelled bytes at (op_of c.in-Ok.instr) c.next.new.self.place c.in-Ok.ensures.instr in
     record {
       bytes = c.in-Ok.ensures.bytes ∙ c.opcodes.invariant.bytes;
-      ahead = rw c.in-Ok.ensures.bytes (ops_next bytes at c.next.new.self.place c.opcodes.out.items c.args.out.now.items c.put_instr.new.out.items s.0 s.1 (op_of c.in-Ok.instr) h s.2 s.3 s.4 c.in_ok-put_instr-in-Ok.ensures);
+      ahead = rw c.in-Ok.ensures.bytes (ops_next op_text bytes at c.next.new.self.place c.opcodes.out.items c.args.out.now.items c.put_instr.new.out.items s.0 s.1 (op_of c.in-Ok.instr) h s.2 s.3 s.4 c.in_ok-put_instr-in-Ok.ensures);
     }
 
 pub returns : goal.returns
 returns c code m =
     let own = subst (λ (l : List ℕ). IsBody l code) (sym c.opcodes.invariant.bytes) m in
-    ops_end c.opcodes.walk.bytes c.opcodes.walk.place c.opcodes.out.items c.args.out.now.items (omega (arith, c.opcodes-test.ensures.done refl)) c.opcodes.invariant.ahead code own
+    ops_end op_text c.opcodes.walk.bytes c.opcodes.walk.place c.opcodes.out.items c.args.out.now.items (omega (arith, c.opcodes-test.ensures.done refl)) c.opcodes.invariant.ahead code own

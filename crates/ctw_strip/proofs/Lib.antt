@@ -1,0 +1,5 @@
+pub mod Mapped
+pub mod Bases
+pub mod Erasing
+pub mod Shorter
+pub mod Limited

@@ -1,0 +1,11 @@
+use Rattle.ctw_ops.specs.Erasure.{erase_module}
+use Rattle.ctw_module.specs.Trees.{tree}
+use Rattle.ctw_write.proofs.Walked.{on_ok}
+use Rattle.ctw_write.proofs.ReadyViews.{sections_joined}
+use Rattle.ctw_strip.proofs.whole.put_sections.Goals as goal
+
+pub returns : goal.returns
+returns c =
+    on_ok c.put_contents.result
+    (sections_joined (erase_module (tree c.args.m.now)) c.args.out.now.items c.put_declarations.new.out.items c.put_spaces.new.out.items c.put_uses_of_spaces.new.out.items c.put_contents.new.out.items
+    c.in_ok-put_declarations.ensures c.in_ok-put_spaces.ensures c.in_ok-put_uses_of_spaces.ensures) c.put_contents.ensures
