@@ -1,6 +1,7 @@
 pub mod Names
 pub mod Sited
 pub mod Numbering
+pub mod Order
 pub mod Links
 pub mod Points
 pub mod Kept

@@ -1,0 +1,13 @@
+pub mod Bodies
+pub mod Controls
+pub mod Flow
+pub mod Heads
+pub mod Held
+pub mod Leaves
+pub mod Packed
+pub mod Refused
+pub mod Rows
+pub mod Scope
+pub mod Stacks
+pub mod Starts
+pub mod Unpacked
