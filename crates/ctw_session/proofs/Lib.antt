@@ -1,0 +1,14 @@
+pub mod Exporting
+pub mod Allocating
+pub mod Copying
+pub mod MemoryMoves
+pub mod Taking
+pub mod Acting
+pub mod Beginning
+pub mod Kept
+pub mod BesideMoves
+pub mod StartsOf
+pub mod SegmentsOf
+pub mod Checking
+pub mod Loading
+pub mod Launching

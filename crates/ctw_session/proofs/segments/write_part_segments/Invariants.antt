@@ -1,0 +1,11 @@
+use Rattle.std.proofs.Common.{◌≡◌, fold, take}
+use Rattle.ctw_link.specs.Numbers.{LinkedModule}
+use Rattle.ctw_launch.specs.Launched.{with_segment}
+use Rattle.ctw_session.specs.Segments.{IsLinkedPart, IsLoading}
+use Rattle.ctw_session.proofs.segments.write_part_segments.Given as goal
+
+abbrev pub invariant-segments : goal.invariant-segments
+invariant-segments l = record {
+  loading : IsLoading l.set l.store.storage;
+  written : (p : LinkedModule) → IsLinkedPart l.set l.part p → l.store.storage ≡ fold (with_segment p) l.fn.store.storage (take l.index p.tree.segments);
+}
