@@ -1,4 +1,4 @@
-// The program: the command line over the files of the working directory and standard output.
+//! The program: the command line over the files of the working directory and standard output.
 #![tactic(auto)]
 
 ghost use Rattle.std.specs.Prelude.{◌≡◌, Some, slice_get};

@@ -13,8 +13,17 @@ const UNTYPED: &str = "\
 const CONSTANT: &str = "\
 00 61 73 6D 01 00 43 54 01 05 01 60 00 01 7F 03 02 01 00 07 05 01 01 66 00 00 0A 06 01 04 00 41 7E 0B";
 
-/// Words over the adder `m`, a vault `v` of four bytes, the adder without a type, and a module without anything, and
-/// why they are refused.
+/// The files of the next two tables.
+const FILES: [(&str, &str); 5] = [
+    ("m", ADDER),
+    ("v", "05 00 00 00"),
+    ("empty", ""),
+    ("untyped", UNTYPED),
+    ("header", "00 61 73 6D 01 00 00 00"),
+];
+
+/// Words over the adder `m`, a vault `v` of four bytes, one without bytes, the adder without a type, and a module without
+/// anything, and why they are refused.
 const REFUSALS: &str = "\
 once v v s f * => refused SameFile v
 once m v v f * 7 => refused SameFile v
@@ -24,20 +33,27 @@ once gone gone s f => refused SameFile gone
 once gone v gone f -1 => refused SameFile gone
 once gone gone2 s f => refused Missing gone
 once header gone s f => refused Missing gone
-once header v s f => refused NotBuilt header
 once untyped v s f * 7 => refused check untyped Body 0 at 3 WrongType
 once v m s f => refused read v Truncated 4
-once m v s g * 7 => refused NotBuilt m
-once m v s f => refused NotBuilt m
-once m v s f * => refused NotBuilt m
-once m v s f * 7 7 => refused NotBuilt m
-once m v s f * * => refused NotBuilt m
-once m v s f * 4294967296 => refused NotBuilt m
-once m v s f * 0x1_0000_0000 => refused NotBuilt m
-once m v s f * -2147483649 => refused NotBuilt m
-once m v s f 4294967296 7 => refused NotBuilt m
-once m v s f * 18446744073709551615 => refused NotBuilt m
-once m v s f * -9223372036854775808 => refused NotBuilt m
+";
+
+/// Words over the same files, with which no call begins, and why: of several reasons the first is told.
+const NO_CALLS: &str = "\
+once header v s f * 7 => refused NoExport
+once m v s g * 7 => refused NoExport
+once m v s F => refused NoExport
+once m v s f => refused BadArgs
+once m v s f * => refused BadArgs
+once m v s f * 7 7 => refused BadArgs
+once m v s f * * => refused BadArgs
+once m v s f * 4294967296 => refused BadArgs
+once m v s f * 0x1_0000_0000 => refused BadArgs
+once m v s f * -2147483649 => refused BadArgs
+once m v s f 4294967296 7 => refused BadArgs
+once m v s f * 18446744073709551615 => refused BadArgs
+once m v s f * -9223372036854775808 => refused BadArgs
+once m empty s f * * => refused BadArgs
+once m empty s f * 7 => refused VaultShort
 ";
 
 /// Arguments of the adder `m` over a vault that begins with 5, and what is sealed.
@@ -130,18 +146,31 @@ fn secret_results_are_sealed_and_public_ones_printed(rt: HostRuntime) {
 
 #[test]
 fn each_refusal_of_a_call_has_its_line(rt: HostRuntime) {
-    let files = [
-        ("m", ADDER),
-        ("v", "05 00 00 00"),
-        ("untyped", UNTYPED),
-        ("header", "00 61 73 6D 01 00 00 00"),
-    ];
-    let mut shelf = shelf_of(&rt, rt.alloc(), &files);
+    let mut shelf = shelf_of(&rt, rt.alloc(), &FILES);
     for row in REFUSALS.lines() {
         let text = format!(in rt.alloc(); "{}\n", answer(row)).expect(&rt, "memory");
         says(&rt, rt.alloc(), question(row), &mut shelf, text.as_str());
     }
     assert!(rt; shelf.file("s").is_none());
+}
+
+#[test]
+fn without_a_call_there_is_no_turn_and_nothing_is_sealed(rt: HostRuntime) {
+    let mut shelf = shelf_of(&rt, rt.alloc(), &FILES);
+    for row in NO_CALLS.lines() {
+        let text = format!(in rt.alloc(); "{}\nrefused SlotFree\n", answer(row));
+        let text = text.expect(&rt, "memory");
+        let bytes = text.as_bytes();
+        writes(
+            &rt,
+            rt.alloc(),
+            question(row),
+            &mut shelf,
+            Status::Done,
+            bytes,
+        );
+        is_sealed(&rt, rt.alloc(), &shelf, "");
+    }
 }
 
 #[test]
@@ -201,6 +230,6 @@ fn a_vault_has_up_to_16_mebibytes(rt: HostRuntime) {
 #[test]
 fn a_load_that_fails_leaves_nothing(rt: HostRuntime) {
     let ended = (Status::ReadFault, "");
-    sum_says(&rt, rt.alloc(), &[3], (1000, &[]), ended);
-    sum_says(&rt, rt.alloc(), &[4], (1000, &[]), ended);
+    sum_says(&rt, rt.alloc(), SUM, &[4], (1000, &[]), ended);
+    sum_says(&rt, rt.alloc(), SUM, &[5], (1000, &[]), ended);
 }

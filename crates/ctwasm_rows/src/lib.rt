@@ -11,3 +11,5 @@ mod modules;
 mod rows;
 #[cfg(test)]
 mod runs;
+#[cfg(test)]
+mod sessions;

@@ -1,5 +1,7 @@
-use crate::runs::{USAGE, is_sealed, is_spelled, save, says, says_of, shelf_of, words_of, writes};
-use ctw_io::{MemShelf, MemSink, SureSink};
+use crate::runs::{
+    USAGE, is_sealed, is_spelled, is_stripped, save, says, says_of, shelf_of, words_of, writes,
+};
+use ctw_io::{MemShelf, MemSink, Shelf, SureSink};
 use ctwasm_top::{Status, ctwasm};
 use std::alloc::Global;
 use std::process::Abort;
@@ -15,10 +17,14 @@ pub const ADDER: &str = "\
 /// A call of it, with the first argument from the vault.
 pub const SUM: &str = "once m v s f * 7";
 
+/// The same call as a script, of the adder as the part m.
+const SCRIPT: &str = "begin 0 \"m\" \"f\" * 7\nturn 0 1000000\n";
+
 #[test]
 fn a_header_is_a_module(rt: HostRuntime) {
     says_of(&rt, rt.alloc(), "check m", HEADER, "ok\n");
     is_spelled(&rt, rt.alloc(), HEADER, HEADER);
+    is_stripped(&rt, rt.alloc(), HEADER, HEADER);
 }
 
 #[test]
@@ -168,13 +174,15 @@ fn one_file_has_one_part_in_a_call(rt: HostRuntime) {
 }
 
 /// Calls that fail.
-type Fails = &'static [u64];
+pub type Fails = &'static [u64];
 
-/// The sum over the vault 5, a shelf and a sink that fail at these calls, where the sink takes up to so many bytes a
-/// call, has this status and text. The shelf's first two calls fill it.
+/// The words of a line over the adder m, the vault v with 5, and the call of the sum as the script t: a shelf and a sink
+/// that fail at these calls, where the sink takes up to so many bytes a call, leave this status and text, and no file s.
+/// The shelf's first three calls fill it.
 pub fn sum_says(
     rt: &impl Abort,
     alloc: Global,
+    line: &str,
     shelf_fails: Fails,
     (most, sink_fails): (usize, Fails),
     (status, text): (Status, &str),
@@ -184,9 +192,10 @@ pub fn sum_says(
     let mut shelf = MemShelf::new(alloc, Vec::new(alloc), shelf_fails);
     save(rt, alloc, &mut shelf, "m", ADDER);
     save(rt, alloc, &mut shelf, "v", "05 00 00 00");
+    assert_eq!(rt; shelf.save("t", SCRIPT.as_bytes()), Ok(()));
     let sink_fails = sink_fails.to_vec(alloc).expect(rt, "memory");
     let mut out = MemSink::new(alloc, most, sink_fails);
-    let words = words_of(alloc, SUM).expect(rt, "memory");
+    let words = words_of(alloc, line).expect(rt, "memory");
     assert_eq!(rt; ctwasm(alloc, &words, &mut shelf, &mut out), status);
     assert_eq!(rt; out.taken(), text.as_bytes());
     assert!(rt; shelf.file("s").is_none());
@@ -198,10 +207,10 @@ fn each_move_is_written_before_the_next_and_saving_comes_last(rt: HostRuntime) {
     let table: [(Fails, (usize, Fails), (Status, &str)); 3] = [
         (&[], (3, &[2]), (Status::WriteFault, "beg")),
         (&[], (1000, &[2]), (Status::WriteFault, "began\n")),
-        (&[5], (1000, &[]), (Status::SaveFault, whole)),
+        (&[6], (1000, &[]), (Status::SaveFault, whole)),
     ];
     for (shelf_fails, sink, ended) in table {
-        sum_says(&rt, rt.alloc(), shelf_fails, sink, ended);
+        sum_says(&rt, rt.alloc(), SUM, shelf_fails, sink, ended);
     }
 }
 

@@ -81,6 +81,13 @@ pub fn is_spelled(rt: &impl Abort, alloc: Global, module: &str, want: &str) {
     writes(rt, alloc, "canon m", &mut shelf, Status::Done, &bytes);
 }
 
+/// The stripped module of a valid one is this, both in hexadecimal.
+pub fn is_stripped(rt: &impl Abort, alloc: Global, module: &str, want: &str) {
+    let mut shelf = shelf_of(rt, alloc, &[("m", module)]);
+    let bytes = bytes_of(alloc, want).expect(rt, "memory");
+    writes(rt, alloc, "strip m", &mut shelf, Status::Done, &bytes);
+}
+
 /// The file s has these bytes, in hexadecimal.
 pub fn is_sealed(rt: &impl Abort, alloc: Global, shelf: &SureShelf, want: &str) {
     let bytes = bytes_of(alloc, want).expect(rt, "memory");

@@ -1,35 +1,87 @@
 -- The answer of the program, word by word.
-use Rattle.std.proofs.Common.{◌≡◌, ℕ, List, Option, Some, None, sym, ap, subst, codes}
+use Rattle.std.proofs.Common.{◌≡◌, ◌≢◌, ℕ, List, Option, Some, Result, Ok, Err, sym, ◌∙◌, subst}
 use Rattle.ctw_io.specs.Files.{Files}
-use Rattle.ctwasm_top.specs.declared.Status.{Status}
-use Rattle.ctwasm_top.specs.declared.Status.TheVariants as Statuses
-use Rattle.ctwasm_top.specs.OnceWords.{OnceWords}
-use Rattle.ctwasm_top.specs.Words.{Command, command_of, same_file}
-use Rattle.ctwasm_top.specs.Answer.{Outcome, refuses, unless_same, once_call, once_answer, on_words, answer}
-use Rattle.ctwasm_top.specs.Headline.{Did, DidTold}
+use Rattle.ctw_io.specs.Faults.{Rose}
+use Rattle.ctw_ops.specs.declared.numeric.Profile.{Profile}
+use Rattle.ctw_ops.specs.declared.numeric.Profile.TheVariants.{Divide, Multiply}
+use Rattle.ctw_script.specs.declared.moves.Move.{Move}
+use Rattle.ctw_script.specs.declared.script.ScriptFault.{ScriptFault}
+use Rattle.ctw_inputs.specs.Saying.{Saying}
+use Rattle.ctw_inputs.specs.declared.said.Stop.{Stop}
+use Rattle.ctw_inputs.specs.declared.said.Stop.TheVariants as stop
+use Rattle.ctw_inputs.specs.declared.said.Status.{Status}
+use Rattle.ctw_inputs.specs.declared.said.Status.TheVariants as status
+use Rattle.ctw_inputs.specs.Outcome.{Outcome}
+use Rattle.ctw_inputs.specs.Settling.{SaysSo, HasReadCause, Reads}
+use Rattle.ctwasm_top.specs.SessionWords.{RunWords}
+use Rattle.ctwasm_top.specs.Words.{Command, Run, command_of}
+use Rattle.ctwasm_top.specs.Answer.{on_words, answer, ReadsScript}
+use Rattle.ctwasm_top.specs.Headline.{Did, DidTold, HasCauses}
+use Rattle.ctwasm_top.specs.ValidCalls.{HoldsScript, check_words, canon_words}
 
-module _ (files : Files) (w : OnceWords) (status : Status) (taken took : Option (List ℕ)) where
-  -- one file under two words
-  pub same_words : (after : Option Files) (word : List ℕ) → after ≡ Some files → same_file w ≡ Some word → Did status (refuses (codes "SameFile") word) files files taken took → DidTold status (once_answer files w) files after taken took
-  same_words after word told f d = record {
-    files = files;
-    told = told;
-    did = subst (λ (a : Outcome). Did status a files files taken took) (sym (ap (λ (o : Option (List ℕ)). unless_same o (once_call files w w.arguments)) f)) d;
-  }
+-- ---- the words of a command
 
-  -- two files, and a third
-  pub other_words : (after : Option Files) → same_file w ≡ None → DidTold status (once_call files w w.arguments) files after taken took → DidTold status (once_answer files w) files after taken took
-  other_words after f d = subst (λ (a : Outcome). DidTold status a files after taken took) (sym (ap (λ (o : Option (List ℕ)). unless_same o (once_call files w w.arguments)) f)) d
+module _ (words : List (List ℕ)) (files : Files) (o : Option Command) (e : command_of words ≡ o) where
+  pub on_command : (reading : Result (List Move) ScriptFault) (result : Status) (after : Option Files) (taken took : Option (List ℕ)) → DidTold result (on_words files reading o) files after taken took
+      → DidTold result (answer words files reading) files after taken took
+  unfolding answer
+  on_command reading result after taken took d = subst (λ (o : Option Command). DidTold result (on_words files reading o) files after taken took) (sym e) d
 
--- the words of a command
-pub on_command : (words : List (List ℕ)) (files : Files) (status : Status) (after : Option Files) (taken took : Option (List ℕ)) (o : Option Command) → command_of words ≡ o → DidTold status (on_words files o) files after taken took
-    → DidTold status (answer words files) files after taken took
-unfolding answer
-on_command words files status after taken took o e d = subst (λ (o : Option Command). DidTold status (on_words files o) files after taken took) (sym e) d
+  pub reads_command : (reading : Result (List Move) ScriptFault) → ReadsScript (command_of words) files reading → ReadsScript o files reading
+  reads_command reading h = subst (λ (o : Option Command). ReadsScript o files reading) e h
 
--- what Done and Refused say of the answer
-pub done_answer : (words : List (List ℕ)) (files : Files) (status : Status) (after : Option Files) (taken took : Option (List ℕ)) → DidTold status (answer words files) files after taken took → status ≡ Statuses.Done → (answer words files).status ≡ Statuses.Done
-done_answer words files status after taken took d e = sym (subst (λ (s : Status). DidTold s (answer words files) files after taken took) e d).did.0
+  pub command_reads : (reading : Result (List Move) ScriptFault) → ReadsScript o files reading → ReadsScript (command_of words) files reading
+  command_reads reading h = subst (λ (o : Option Command). ReadsScript o files reading) (sym e) h
 
-pub refused_answer : (words : List (List ℕ)) (files : Files) (status : Status) (after : Option Files) (taken took : Option (List ℕ)) → DidTold status (answer words files) files after taken took → status ≡ Statuses.Refused → (answer words files).status ≡ Statuses.Refused
-refused_answer words files status after taken took d e = sym (subst (λ (s : Status). DidTold s (answer words files) files after taken took) e d).did.0
+-- ---- what is written of a text
+
+-- no file is changed
+pub says_command : (words : List (List ℕ)) (files : Files) (o : Option Command) → command_of words ≡ o → (reading : Result (List Move) ScriptFault) (result : Status) (said : Result Saying Stop) (before after : Option Files) (taken took : Option (List ℕ))
+    → before ≡ Some files → after ≡ before → SaysSo said (on_words files reading o) → ((files : Files) (o : Outcome) → SaysSo said o → Did result o files files taken took) → DidTold result (answer words files reading) files after taken took
+says_command words files o e reading result said before after taken took told unchanged says did =
+    on_command words files o e reading result after taken took (record { files = files; told = unchanged ∙ told; did = did files (on_words files reading o) says })
+
+pub settled_causes : (result : Status) (said : Result Saying Stop) (shelf shelf_after out out_after : ℕ) (taken took : Option (List ℕ)) → HasReadCause shelf shelf_after said
+    → (result ≡ status.ReadFault → (said ≡ Err stop.ReadFault) × (took ≡ taken)) → (result ≡ status.WriteFault → Rose out out_after) → result ≢ status.SaveFault → HasCauses result shelf shelf_after out out_after taken took
+settled_causes result said shelf shelf_after out out_after taken took cause read write quiet = record {
+  read = λ e. (cause.failed (read e).0, (read e).1);
+  write = write;
+  save = λ e. absurd (quiet e);
+}
+
+pub written_causes : (result : Status) (shelf out out_after : ℕ) (taken took : Option (List ℕ)) → (result ≡ status.WriteFault → Rose out out_after) → (result ≢ status.ReadFault) × (result ≢ status.SaveFault)
+    → HasCauses result shelf shelf out out_after taken took
+written_causes result shelf out out_after taken took write quiet = record {
+  read = λ e. absurd (quiet.0 e);
+  write = write;
+  save = λ e. absurd (quiet.1 e);
+}
+
+-- ---- what a status says of the answer
+
+module _ (words : List (List ℕ)) (files : Files) (reading : Result (List Move) ScriptFault) (result : Status) (after : Option Files) (taken took : Option (List ℕ)) where
+  pub done_answer : DidTold result (answer words files reading) files after taken took → result ≡ status.Done → (answer words files reading).status ≡ status.Done
+  done_answer d e = sym (subst (λ (s : Status). DidTold s (answer words files reading) files after taken took) e d).did.0
+
+  pub refused_answer : DidTold result (answer words files reading) files after taken took → result ≡ status.Refused → (answer words files reading).status ≡ status.Refused
+  refused_answer d e = sym (subst (λ (s : Status). DidTold s (answer words files reading) files after taken took) e d).did.0
+
+-- ---- readings
+
+-- commands without a script have any
+check_form_reads : (profile : Profile) (name : List ℕ) (files : Files) (reading : Result (List Move) ScriptFault) → ReadsScript (command_of (check_words profile name)) files reading
+check_form_reads Divide name files reading = tt
+check_form_reads Multiply name files reading = tt
+
+pub check_reads : (words : List (List ℕ)) (profile : Profile) (name : List ℕ) (files : Files) (reading : Result (List Move) ScriptFault) → words ≡ check_words profile name → ReadsScript (command_of words) files reading
+check_reads words profile name files reading e = subst (λ (w : List (List ℕ)). ReadsScript (command_of w) files reading) (sym e) (check_form_reads profile name files reading)
+
+pub canon_reads : (words : List (List ℕ)) (name : List ℕ) (files : Files) (reading : Result (List Move) ScriptFault) → words ≡ canon_words name → ReadsScript (command_of words) files reading
+canon_reads words name files reading e = subst (λ (w : List (List ℕ)). ReadsScript (command_of w) files reading) (sym e) tt
+
+-- the file of a script is one
+pub script_reads : (profile : Profile) (w : RunWords) (files : Files) (h : HoldsScript files w.script) → ReadsScript (Some (Run profile w)) files (Ok h.moves)
+script_reads profile w files h = λ text told short is_text.
+    let e : Some h.text ≡ Some text = sym h.told ∙ told in
+    let same : h.text ≡ text = cc in
+    subst (λ (text : List ℕ). Reads text (Ok h.moves)) same h.read

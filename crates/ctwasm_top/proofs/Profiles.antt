@@ -1,5 +1,5 @@
 -- Modules that bytes spell, under a profile.
-use Rattle.std.proofs.Common.{◌≡◌, ℕ, List, None, Result, Ok, Err, refl, sym, ap, subst}
+use Rattle.std.proofs.Common.{◌≡◌, ◌∙◌, ℕ, List, Option, None, Result, Ok, Err, refl, sym, ap, subst}
 use Rattle.ctw_ops.specs.declared.numeric.Profile.{Profile}
 use Rattle.ctw_ops.specs.declared.types.Label.{Label}
 use Rattle.ctw_ops.specs.Tree.{Module, under}
@@ -10,9 +10,11 @@ use Rattle.ctw_form.specs.Spelled.{Spells}
 use Rattle.ctw_form.specs.Read.{module_at}
 use Rattle.ctw_form.proofs.FileForms.{module_sound}
 use Rattle.ctw_form.proofs.Fitted.{module_formed}
+use Rattle.ctw_modcheck.specs.declared.fault.Invalid.{Invalid}
 use Rattle.ctw_modcheck.specs.Check.{fault_of}
+use Rattle.ctw_inputs.specs.Outcome.{Outcome}
 use Rattle.ctw_modcheck.proofs.Validity.{none_is_valid}
-use Rattle.ctwasm_top.specs.Answer.{module_under, with_profile}
+use Rattle.ctw_inputs.specs.Inputs.{module_under, with_profile, on_form, on_fault, check, read_valid}
 
 pub under_ok : (p : Profile) (bytes : List ℕ) (m : Module Label) → module_at bytes ≡ Ok m → module_under p bytes ≡ Ok (under p m)
 under_ok p bytes m e = by (module_at bytes) e
@@ -46,3 +48,8 @@ pub valid_under : (p : Profile) (bytes : List ℕ) (m : Module Label) → module
 valid_under p bytes m e f =
     let t = spelled_under p bytes m e in
     none_is_valid m (subst IsFormed (sym t.2) (formed_under p t.0 (module_formed bytes t.0 t.1))) f
+
+-- the module is read and valid
+pub module_read_valid : (p : Profile) (name bytes : List ℕ) (m : Module Label) (go : Module Label → Outcome) → module_under p bytes ≡ Ok m → fault_of m ≡ None → read_valid p name bytes go ≡ go m
+module_read_valid p name bytes m go e v =
+    ap (λ (r : Result (Module Label) FormFault). on_form name r (λ m. check name m (go m))) e ∙ ap (λ (o : Option Invalid). on_fault name o (go m)) v

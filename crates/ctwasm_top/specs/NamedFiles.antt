@@ -1,10 +1,6 @@
 -- Words that name a part and its file.
 use Rattle.std.specs.Prelude.{ℕ, ◌==◌, List, [], ◌∷◌, Option, Some, None, option_map, option_and_then, if◌then◌else◌}
-
--- a word NAME=M: a part's name, and its file
-pub record NamedFile : Type 0 where
-  pub name : List ℕ
-  pub file : List ℕ
+use Rattle.ctw_inputs.specs.Inputs.{NamedFile}
 
 -- a word cut at its first `=`; None where it has none
 abbrev pub cut_at_equals : List ℕ → Option (List ℕ × List ℕ)
@@ -17,6 +13,7 @@ abbrev pub unless_unnamed : List ℕ × List ℕ → Option NamedFile
 unless_unnamed ([], file) = None
 unless_unnamed (name, file) = Some (record { name = name; file = file })
 
+-- a word NAME=M
 abbrev pub named_file : List ℕ → Option NamedFile
 named_file word = option_and_then unless_unnamed (cut_at_equals word)
 

@@ -1,46 +1,30 @@
 -- The words of the command line.
-use Rattle.std.specs.Prelude.{ℕ, ◌&&◌, ◌||◌, List, [], ◌∷◌, length, Option, Some, None, option_map, if◌then◌else◌, nat_le, codes}
+use Rattle.std.specs.Prelude.{ℕ, List, [], ◌∷◌, Option, Some, None, option_map, if◌then◌else◌, codes}
 use Rattle.std.specs.Str.{bytes_eq}
-pub use Rattle.ctwasm_top.specs.OnceWords.{OnceWords, arguments_of}
-pub use Rattle.ctwasm_top.specs.NamedFiles.{NamedFile, named_file, named_files}
 use Rattle.ctw_ops.specs.declared.numeric.Profile.{Profile}
 use Rattle.ctw_ops.specs.declared.numeric.Profile.TheVariants.{Divide, Multiply}
+use Rattle.ctw_inputs.specs.Inputs.{NamedFile}
+use Rattle.ctwasm_top.specs.SessionWords.{OnceWords, RunWords, once_words, run_words, part_words}
 
-abbrev pub once_words : List (List ℕ) → Option OnceWords
-once_words (command ∷ m ∷ vault ∷ sealed ∷ export ∷ words) =
-    if bytes_eq command (codes "once")
-    then option_map
-    (λ arguments.
-    record { module_file = m; vault = vault; sealed = sealed; export = export; arguments = arguments })
-    (arguments_of words)
-    else None
-once_words _ = None
-
--- the words behind `link`: 1 to 64
-abbrev pub link_words : List (List ℕ) → Option (List NamedFile)
-link_words (command ∷ words) =
-    if bytes_eq command (codes "link") && (nat_le 1 (length words) && nat_le (length words) 64) then named_files words
-    else None
-link_words [] = None
-
--- the commands: `check M`, `canon M`, `link NAME=M..`, `once M VAULT SEALED EXPORT ARG..`,
--- and the profile of their modules
+-- The commands with their files: `check M`, `canon M`, `strip M`, `link NAME=M..`, `run SCRIPT VAULT SEALED NAME=M..`
+-- and `once M VAULT SEALED EXPORT ARG..`, and the profile of their modules.
 pub data Command : Type 0 where
   Check : (profile : Profile) (module_file : List ℕ) → Command
   Canon : (module_file : List ℕ) → Command
+  Strip : (profile : Profile) (module_file : List ℕ) → Command
   Link : (profile : Profile) (parts : List NamedFile) → Command
-  Once : (words : OnceWords) → Command
+  Run : (profile : Profile) (words : RunWords) → Command
+  Once : (profile : Profile) (words : OnceWords) → Command
 
--- `check M`
-abbrev pub check_command : Profile → List (List ℕ) → Option Command
-check_command profile (command ∷ file ∷ []) =
-    if bytes_eq command (codes "check") then Some (Check profile file) else None
-check_command profile words = None
+-- the one word behind a command's
+abbrev pub file_words : List ℕ → List (List ℕ) → Option (List ℕ)
+file_words name (command ∷ file ∷ []) = if bytes_eq command name then Some file else None
+file_words name words = None
 
--- `canon M`
-abbrev pub canon_command : List (List ℕ) → Option Command
-canon_command (command ∷ file ∷ []) = if bytes_eq command (codes "canon") then Some (Canon file) else None
-canon_command words = None
+-- the words behind `link`
+abbrev pub link_words : List (List ℕ) → Option (List NamedFile)
+link_words (command ∷ words) = if bytes_eq command (codes "link") then part_words words else None
+link_words [] = None
 
 abbrev pub or_command : Option Command → Option Command → Option Command
 or_command (Some command) other = Some command
@@ -48,7 +32,11 @@ or_command None other = other
 
 -- a command to which a profile matters
 abbrev pub profiled_command : Profile → List (List ℕ) → Option Command
-profiled_command profile words = or_command (check_command profile words) (option_map (Link profile) (link_words words))
+profiled_command profile words =
+    or_command (option_map (Check profile) (file_words (codes "check") words))
+    (or_command (option_map (Strip profile) (file_words (codes "strip") words))
+    (or_command (option_map (Link profile) (link_words words))
+    (or_command (option_map (Run profile) (run_words words)) (option_map (Once profile) (once_words words)))))
 
 -- such a command behind the word `mul`
 abbrev pub mul_command : List (List ℕ) → Option Command
@@ -59,19 +47,13 @@ mul_command [] = None
 abbrev pub command_of : List (List ℕ) → Option Command
 command_of words =
     or_command (profiled_command Divide words)
-    (or_command (mul_command words) (or_command (canon_command words) (option_map Once (once_words words))))
+    (or_command (mul_command words) (option_map Canon (file_words (codes "canon") words)))
 
 -- the word of a command's vault, where the command has one
 abbrev pub vault_in : Option Command → Option (List ℕ)
-vault_in (Some (Once w)) = Some w.vault
+vault_in (Some (Run profile w)) = Some w.vault
+vault_in (Some (Once profile w)) = Some w.vault
 vault_in _ = None
 
 abbrev pub vault_word : List (List ℕ) → Option (List ℕ)
 vault_word words = vault_in (command_of words)
-
--- the first of VAULT and SEALED that names a file which another word names too
-abbrev pub same_file : OnceWords → Option (List ℕ)
-same_file w =
-    if bytes_eq w.module_file w.vault || bytes_eq w.sealed w.vault then Some w.vault
-    else if bytes_eq w.module_file w.sealed then Some w.sealed
-    else None

@@ -1,60 +1,42 @@
-// The command line of `ctwasm` over files and a sink.
+//! The command line of `ctwasm` over files and a sink.
 #![tactic(auto)]
 
-mod callable;
 mod commands;
-mod function;
 mod lines;
-mod linking;
-mod machine;
-mod modules;
-mod once;
-mod outside;
-mod parts;
-mod session;
-mod set_lines;
-mod straight;
+mod running;
+mod saying;
+mod sessions;
 mod words;
 
-ghost use Rattle.std.specs.Prelude.{◌≡◌, List, ℕ, map, string_bytes, Some, None};
-ghost use Rattle.ctw_ops.specs.declared.numeric.Profile.{Profile};
+ghost use Rattle.std.specs.Prelude.{◌≡◌, ◌≢◌, ◌∷◌, [], List, Result, ℕ, map, string_bytes, Some, None, All};
 ghost use Rattle.ctw_io.specs.Files.{Files};
-ghost use Rattle.ctw_io.specs.Faults.{Rose};
-ghost use Rattle.ctwasm_top.specs.declared.Status.TheVariants.{Done, Refused, Usage, ReadFault, WriteFault, SaveFault};
+ghost use Rattle.ctw_ops.specs.declared.numeric.Profile.{Profile};
+ghost use Rattle.ctw_script.specs.declared.moves.Move.{Move};
+ghost use Rattle.ctw_script.specs.declared.script.ScriptFault.{ScriptFault};
+ghost use Rattle.ctw_semantics.specs.Sound.{AllUntrusted};
+ghost use Rattle.ctw_link.specs.Sets.{ModuleSet};
+ghost use Rattle.ctw_link.specs.SetInstances.{set_instances};
+ghost use Rattle.ctw_moves.specs.States.{State};
+ghost use Rattle.ctw_moves.specs.Runs.{plays};
+ghost use Rattle.ctw_moves.specs.SoundStates.{HasBytes};
+ghost use Rattle.ctw_moves.specs.SeenStates.{Agree, seen_run};
+ghost use Rattle.ctw_inputs.specs.declared.said.Status.TheVariants.{Done, Refused, Usage};
+ghost use Rattle.ctw_inputs.specs.Inputs.{NamedFile};
+ghost use Rattle.ctw_inputs.specs.Outcome.{Execution, ends};
 ghost use Rattle.ctwasm_top.specs.Usage.{usage_text};
-ghost use Rattle.ctwasm_top.specs.Words.{OnceWords, NamedFile, Link, Once, command_of, vault_word};
-ghost use Rattle.ctwasm_top.specs.Answer.{ends, answer, releases};
-ghost use Rattle.ctwasm_top.specs.Headline.{Did, DidTold, OtherVault, SameOutcome};
-ghost use Rattle.ctwasm_top.specs.ValidCalls.{CallsValid, HoldsValid, check_words, canon_words, GivesSpelling, HoldsSet};
+ghost use Rattle.ctwasm_top.specs.SessionWords.{RunWords, OnceWords, same_in_run, same_in_once};
+ghost use Rattle.ctwasm_top.specs.Words.{Link, Run, Once, command_of, vault_word};
+ghost use Rattle.ctwasm_top.specs.Answer.{once_part, answer, releases, ReadsScript};
+ghost use Rattle.ctwasm_top.specs.Headline.{Did, DidTold, HasCauses, AreOctets, OtherVault, SameOutcome, RunsStripped};
+ghost use Rattle.ctwasm_top.specs.ValidCalls.{HoldsValid, HoldsSet, HoldsScript, HoldsSession, LinksParts, check_words, canon_words, GivesSpelling};
 
-use commands::{canon_file, check_file};
+use commands::{canon_file, check_file, link_files, strip_file};
+pub use ctw_inputs::Status;
 use ctw_io::{Shelf, Sink};
-use linking::link_files;
-use once::run_once;
-use outside::say;
+use running::{once, run};
+use saying::{say, settle};
 use std::alloc::Global;
 use words::{Command, command_of};
-
-/// How a command ended; its number is the program's exit status.
-#[derive(Clone, Copy, Debug, PartialEq, Eq)]
-pub enum Status {
-    /// The command's text was taken, and its bytes were saved where it saves.
-    Done,
-    /// A file or the words were refused; the refusal's line was taken.
-    Refused,
-    /// The words have none of the forms of a command; the usage text was taken.
-    Usage,
-    /// No labelling extends the marks; the flow's lines were taken.
-    NoLabelling,
-    /// Reading a file failed; nothing was taken.
-    ReadFault,
-    /// Writing the text failed; a prefix of it was taken.
-    WriteFault,
-    /// Memory was wanting; a prefix of the text was taken.
-    NoMemory,
-    /// Saving failed, after the whole text was taken.
-    SaveFault,
-}
 
 const USAGE: &[u8] = b"usage: ctwasm check M
        ctwasm canon M
@@ -77,74 +59,102 @@ fn dispatch<F: Shelf, K: Sink>(
     shelf: &mut F,
     out: &mut K,
 ) -> Status
-    ensures did { (files : Files) → F.files shelf.old ≡ Some files
-        → DidTold result (answer (map string_bytes words.now) files) files (F.files shelf.new) (K.taken out.old)
+    ensures did { (files : Files) (reading : Result (List Move) ScriptFault) → F.files shelf.old ≡ Some files
+        → ReadsScript (command_of (map string_bytes words.now)) files reading
+        → DidTold result (answer (map string_bytes words.now) files reading) files (F.files shelf.new) (K.taken out.old)
         (K.taken out.new) }
+    ensures read { (files : Files) → F.files shelf.old ≡ Some files → result ≡ Done
+        → (reading : Result (List Move) ScriptFault) × ReadsScript (command_of (map string_bytes words.now)) files reading }
+    ensures causes { HasCauses result (F.faults shelf.old) (F.faults shelf.new) (K.faults out.old) (K.faults out.new)
+        (K.taken out.old) (K.taken out.new) }
     ensures usage { result ≡ Usage → command_of (map string_bytes words.now) ≡ None }
     ensures no_form { (files : Files) → command_of (map string_bytes words.now) ≡ None
         → Did result (ends Usage usage_text) files files (K.taken out.old) (K.taken out.new) }
-    ensures read { result ≡ ReadFault
-        → Rose (F.faults shelf.old) (F.faults shelf.new) × (K.taken out.new ≡ K.taken out.old) }
-    ensures write { result ≡ WriteFault → Rose (K.faults out.old) (K.faults out.new) }
-    ensures save { result ≡ SaveFault → Rose (F.faults shelf.old) (F.faults shelf.new) }
 {
     match command_of(words) {
         None => say(out, USAGE, Status::Usage),
-        Some(Command::Check(profile, name)) => check_file(alloc, profile, name, shelf, out),
-        Some(Command::Canon(name)) => canon_file(alloc, name, shelf, out),
-        Some(Command::Link(profile, parts)) => link_files(alloc, profile, &parts, shelf, out),
-        Some(Command::Once(once)) => run_once(alloc, &once, shelf, out),
+        Some(Command::Check(profile, file)) => {
+            settle(out, check_file(alloc, profile, file, shelf))
+        }
+        Some(Command::Canon(file)) => settle(out, canon_file(alloc, file, shelf)),
+        Some(Command::Strip(profile, file)) => {
+            settle(out, strip_file(alloc, profile, file, shelf))
+        }
+        Some(Command::Link(profile, parts)) => {
+            settle(out, link_files(alloc, profile, &parts, shelf))
+        }
+        Some(Command::Run(profile, words)) => run(alloc, profile, &words, shelf, out),
+        Some(Command::Once(profile, words)) => once(alloc, profile, &words, shelf, out),
     }
 }
 
 /// Does what the words after the program's name say, over these files and this place for text.
 ///
-/// For now it has the commands `check M`, `canon M`, `link NAME=M..`, and `once M VAULT SEALED EXPORT ARG..` over
-/// straight modules. Before `check` and `link` the word `mul` may stand, under which multiplications leak as divisions
-/// do. All other words are a wrong use, whose text is written. Every text is written before a file is saved, and files
-/// are saved in the last place.
+/// For now it has the commands `check M`, `canon M`, `strip M`, `link NAME=M..`, `run SCRIPT VAULT SEALED NAME=M..` and
+/// `once M VAULT SEALED EXPORT ARG..`. Before all but `canon` the word `mul` may stand, under which multiplications leak
+/// as divisions do. All other words are a wrong use, whose text is written. The text of each move is written before the
+/// next is made, every text before a file is saved, and files are saved in the last place.
 pub fn ctwasm<F: Shelf, K: Sink>(
     alloc: Global,
     words: &[String],
     shelf: &mut F,
     out: &mut K,
 ) -> Status
-    // What was written and saved and the status are those of the answer, or a fault says how far it came.
-    ensures did { (files : Files) → F.files shelf.old ≡ Some files
-        → DidTold result (answer (map string_bytes words.now) files) files (F.files shelf.new) (K.taken out.old)
+    // What was written and saved and the status are those of the answer, or a fault says how far it came. The answer goes
+    // by the reading of the script that the words name: there is one at most, and there is one where the work is done.
+    ensures did { (files : Files) (reading : Result (List Move) ScriptFault) → F.files shelf.old ≡ Some files
+        → ReadsScript (command_of (map string_bytes words.now)) files reading
+        → DidTold result (answer (map string_bytes words.now) files reading) files (F.files shelf.new) (K.taken out.old)
         (K.taken out.new) }
+    ensures read { (files : Files) → F.files shelf.old ≡ Some files → result ≡ Done
+        → (reading : Result (List Move) ScriptFault) × ReadsScript (command_of (map string_bytes words.now)) files reading }
 
     // `check` ends well only for a file whose bytes spell a module that is valid under the words' profile, and refuses
     // no such file.
     ensures checked { (files : Files) (profile : Profile) (name : List ℕ) → F.files shelf.old ≡ Some files
         → map string_bytes words.now ≡ check_words profile name → result ≡ Done → HoldsValid files profile name }
     ensures passed { (files : Files) (profile : Profile) (name : List ℕ) → F.files shelf.old ≡ Some files
-        → map string_bytes words.now ≡ check_words profile name → HoldsValid files profile name → result ≡ Refused → ⊥ }
+        → map string_bytes words.now ≡ check_words profile name → HoldsValid files profile name → result ≢ Refused }
 
     // `canon` writes bytes that spell the file's module.
     ensures spelled { (files : Files) (name : List ℕ) → F.files shelf.old ≡ Some files
         → map string_bytes words.now ≡ canon_words name → result ≡ Done → GivesSpelling files name }
 
-    // `link` ends well only for files that hold modules that are valid under the words' profile and match, and refuses
-    // no such files.
+    // `link`, `run` and `once` end well only for files that hold modules that are valid under the words' profile and
+    // match, and `link` refuses no such files.
     ensures linked { (files : Files) (profile : Profile) (parts : List NamedFile) → F.files shelf.old ≡ Some files
-        → command_of (map string_bytes words.now) ≡ Some (Link profile parts) → result ≡ Done
-        → HoldsSet files profile parts }
+        → LinksParts (command_of (map string_bytes words.now)) profile parts → result ≡ Done → HoldsSet files profile parts }
     ensures matched { (files : Files) (profile : Profile) (parts : List NamedFile) → F.files shelf.old ≡ Some files
         → command_of (map string_bytes words.now) ≡ Some (Link profile parts) → HoldsSet files profile parts
-        → result ≡ Refused → ⊥ }
+        → result ≢ Refused }
 
-    // A call is made only of a module that is valid.
-    ensures valid { (files : Files) (w : OnceWords) → F.files shelf.old ≡ Some files
-        → command_of (map string_bytes words.now) ≡ Some (Once w) → result ≡ Done
-        → CallsValid (map string_bytes words.now) files }
+    // `run` and `once` refuse no files that hold a set that is launched, and the script.
+    ensures ran { (files : Files) (profile : Profile) (w : RunWords) → F.files shelf.old ≡ Some files
+        → command_of (map string_bytes words.now) ≡ Some (Run profile w) → same_in_run w ≡ None
+        → HoldsScript files w.script → HoldsSession files profile w.parts w.vault → result ≢ Refused }
+    ensures called { (files : Files) (profile : Profile) (w : OnceWords) → F.files shelf.old ≡ Some files
+        → command_of (map string_bytes words.now) ≡ Some (Once profile w) → same_in_once w ≡ None
+        → HoldsSession files profile (once_part w ∷ []) w.vault → result ≢ Refused }
 
     // The two vaults: other bytes in VAULT, as many, by which the same is released, give the same bytes for out, the
     // same status and as many bytes to save.
-    ensures hidden { (files others : Files) (vault : List ℕ) → F.files shelf.old ≡ Some files
+    ensures hidden { (files others : Files) (reading : Result (List Move) ScriptFault) (vault : List ℕ)
         → vault_word (map string_bytes words.now) ≡ Some vault → OtherVault vault files others
-        → releases (map string_bytes words.now) others ≡ releases (map string_bytes words.now) files
-        → SameOutcome (answer (map string_bytes words.now) others) (answer (map string_bytes words.now) files) }
+        → releases (map string_bytes words.now) others reading ≡ releases (map string_bytes words.now) files reading
+        → SameOutcome (answer (map string_bytes words.now) others reading)
+        (answer (map string_bytes words.now) files reading) }
+    // From agreeing states, and with equal releases, every list of moves tells the same and leaves agreeing states.
+    ensures lists { (set : ModuleSet) (s t : State) (moves : List Move) → Agree s t
+        → (plays set s moves).releases ≡ (plays set t moves).releases
+        → seen_run (plays set s moves) ≡ seen_run (plays set t moves) }
+    // Without trusted functions nothing is released.
+    ensures untrusted { (files : Files) (reading : Result (List Move) ScriptFault) (e : Execution) → AreOctets files
+        → (answer (map string_bytes words.now) files reading).execution ≡ Some e → All HasBytes e.moves
+        → AllUntrusted (set_instances e.set) → (plays e.set e.state e.moves).releases ≡ [] }
+    // What is executed does the same when it is stripped.
+    ensures stripped { (files : Files) (reading : Result (List Move) ScriptFault) (e : Execution) → AreOctets files
+        → (answer (map string_bytes words.now) files reading).execution ≡ Some e → All HasBytes e.moves
+        → RunsStripped e }
 
     // Told or not: wrong words are a wrong use, and nothing else is.
     ensures usage { result ≡ Usage → command_of (map string_bytes words.now) ≡ None }
@@ -152,10 +162,8 @@ pub fn ctwasm<F: Shelf, K: Sink>(
         → Did result (ends Usage usage_text) files files (K.taken out.old) (K.taken out.new) }
 
     // Told or not: each fault has its cause.
-    ensures read { result ≡ ReadFault
-        → Rose (F.faults shelf.old) (F.faults shelf.new) × (K.taken out.new ≡ K.taken out.old) }
-    ensures write { result ≡ WriteFault → Rose (K.faults out.old) (K.faults out.new) }
-    ensures save { result ≡ SaveFault → Rose (F.faults shelf.old) (F.faults shelf.new) }
+    ensures causes { HasCauses result (F.faults shelf.old) (F.faults shelf.new) (K.faults out.old) (K.faults out.new)
+        (K.taken out.old) (K.taken out.new) }
 {
     dispatch(alloc, words, shelf, out)
 }

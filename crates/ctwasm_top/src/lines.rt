@@ -1,232 +1,90 @@
-// The lines that the program writes.
-ghost use Rattle.std.specs.Prelude.{◌≡◌, ◌++◌, ◌∷◌, [], ℕ, List, OnOk, IfOk, codes, decimal};
-ghost use Rattle.ctw_script.specs.Lines.{blank_before_each, reply_line};
-ghost use Rattle.ctwasm_top.specs.Lines.{refusal_line, what_word, form_word, excess_words, read_line, space_word, rule_word, body_words, invalid_words, check_line};
+//! The lines about sets that are linked and launched, and about moves.
+ghost use Rattle.std.specs.Prelude.{◌≡◌, ◌≢◌, ◌++◌, ◌∷◌, [], List, OnOk, IfOk, decimal};
+ghost use Rattle.ctw_link.specs.declared.set.Part.{Part};
+ghost use Rattle.ctw_link.specs.Sets.{set_of};
+ghost use Rattle.ctw_launch.specs.Launched as Launched;
+ghost use Rattle.ctw_script.specs.Lines.{blank_before_each};
+ghost use Rattle.ctw_session.specs.Launches.{TellsFault};
+ghost use Rattle.ctw_session.specs.declared.fault.LaunchFault.TheVariants.{NoMemory};
+ghost use Rattle.ctw_inputs.specs.Parts.{AreNamed};
+ghost use Rattle.ctwasm_top.specs.Lines.{linked_line, launch_words, launch_line, told_line};
 
-use ctw_form::{FormFault, FormKind};
-use ctw_modcheck::Invalid;
-use ctw_ops::{SecretRule, Space, What};
-use ctw_script::{Reply, reply_text};
-use ctw_valid::BodyFault;
+use ctw_inputs::{LoadedPart, part_name};
+use ctw_lines::{add_number_word, add_space, add_word};
+use ctw_script::{Event, Reply, event_text, reply_text, trap_word};
+use ctw_session::LaunchFault;
 use itoa::Buffer;
 use std::alloc::{AllocError, Global};
 
-/// Adds decimal digits.
-pub fn add_number(line: &mut Vec<u8>, number: u32) -> Result<(), AllocError>
-    ensures { OnOk result (line.new.items ≡ line.old.items ++ decimal number) }
+/// The line for a set of so many parts that matches.
+pub fn linked_line(alloc: Global, parts: usize) -> Result<Vec<u8>, AllocError>
+    ensures { IfOk result (λ line. line.items ≡ linked_line parts) }
 {
     let mut buffer = Buffer::new();
-    line.extend_from_slice(buffer.format(number).as_bytes())
-}
-
-/// The line of a reply.
-pub fn reply_line(alloc: Global, reply: &Reply) -> Result<Vec<u8>, AllocError>
-    ensures { IfOk result (λ line. line.items ≡ reply_line reply.now) }
-{
-    let mut line = Vec::new(alloc);
-    reply_text(reply, &mut line)?;
-    Ok(line)
-}
-
-/// The line of a refusal: its kind, and the word that it is about.
-pub fn refusal_line(alloc: Global, kind: &str, word: &str) -> Result<Vec<u8>, AllocError>
-    ensures { IfOk result (λ line. line.items ≡ refusal_line kind.now word.now) }
-{
-    let mut line = Vec::from_slice(alloc, b"refused ")?;
-    line.extend_from_slice(kind.as_bytes())?;
-    line.push(b' ')?;
-    line.extend_from_slice(word.as_bytes())?;
+    let mut line = Vec::from_slice(alloc, b"linked ")?;
+    line.extend_from_slice(buffer.format(parts).as_bytes())?;
     line.push(b'\n')?;
     Ok(line)
 }
 
-/// Adds a word behind a blank.
-pub fn add_word(line: &mut Vec<u8>, word: &[u8]) -> Result<(), AllocError>
-    ensures { OnOk result (line.new.items ≡ line.old.items ++ blank_before_each (word.now ∷ [])) }
-{
-    line.push(b' ')?;
-    line.extend_from_slice(word)
-}
-
-/// Adds decimal digits behind a blank.
-pub fn add_number_word(line: &mut Vec<u8>, number: u32) -> Result<(), AllocError>
-    ensures { OnOk result (line.new.items ≡ line.old.items ++ blank_before_each (decimal number ∷ [])) }
-{
-    line.push(b' ')?;
-    add_number(line, number)
-}
-
-fn what_word(what: What) -> &'static [u8]
-    ensures { result.now ≡ what_word what }
-{
-    match what {
-        What::Bytes => b"Bytes",
-        What::Params => b"Params",
-        What::Results => b"Results",
-        What::Memories => b"Memories",
-        What::Tables => b"Tables",
-        What::Locals => b"Locals",
-        What::Nesting => b"Nesting",
-    }
-}
-
-fn form_word(kind: FormKind) -> &'static [u8]
-    ensures { result.now ≡ form_word kind }
-{
-    match kind {
-        FormKind::BadMagic => b"BadMagic",
-        FormKind::BadVersion => b"BadVersion",
-        FormKind::Truncated => b"Truncated",
-        FormKind::BadLeb => b"BadLeb",
-        FormKind::BadSection => b"BadSection",
-        FormKind::SizeMismatch => b"SizeMismatch",
-        FormKind::CountMismatch => b"CountMismatch",
-        FormKind::BadType => b"BadType",
-        FormKind::BadOpcode => b"BadOpcode",
-        FormKind::Floats => b"Floats",
-        FormKind::BadUtf8 => b"BadUtf8",
-        FormKind::Unbalanced => b"Unbalanced",
-        FormKind::TooMany { .. } => b"TooMany",
-        FormKind::LabelsInPlain => b"LabelsInPlain",
-    }
-}
-
-/// Adds what there is too much of, and the limit.
-fn add_excess(line: &mut Vec<u8>, kind: FormKind) -> Result<(), AllocError>
-    ensures { OnOk result (line.new.items ≡ line.old.items ++ blank_before_each (excess_words kind)) }
-{
-    let FormKind::TooMany { what, limit } = kind else {
-        return Ok(());
-    };
-    add_word(line, what_word(what))?;
-    add_number_word(line, limit)
-}
-
-/// The line for a file that spells no module.
-pub fn read_line(alloc: Global, word: &str, fault: FormFault) -> Result<Vec<u8>, AllocError>
-    ensures { IfOk result (λ line. line.items ≡ read_line word.now fault) }
-{
-    let mut line = Vec::from_slice(alloc, b"refused read")?;
-    add_word(&mut line, word.as_bytes())?;
-    add_word(&mut line, form_word(fault.kind))?;
-    add_number_word(&mut line, fault.place)?;
-    add_excess(&mut line, fault.kind)?;
-    line.push(b'\n')?;
-    Ok(line)
-}
-
-fn space_word(space: Space) -> &'static [u8]
-    ensures { result.now ≡ space_word space }
-{
-    match space {
-        Space::Types => b"type",
-        Space::Imports => b"import",
-        Space::Functions => b"func",
-        Space::Tables => b"table",
-        Space::Memories => b"memory",
-        Space::Globals => b"global",
-        Space::Exports => b"export",
-        Space::Start => b"start",
-        Space::Elements => b"elem",
-        Space::Segments => b"data",
-    }
-}
-
-fn rule_word(rule: SecretRule) -> &'static [u8]
-    ensures { result.now ≡ rule_word rule }
-{
-    match rule {
-        SecretRule::Condition => b"Condition",
-        SecretRule::TableIndex => b"TableIndex",
-        SecretRule::CallIndex => b"CallIndex",
-        SecretRule::Address => b"Address",
-        SecretRule::Divide => b"Divide",
-        SecretRule::GrowSize => b"GrowSize",
-    }
-}
-
-/// Adds where an opcode stands and a word.
-fn add_at(line: &mut Vec<u8>, at: u32, word: &[u8]) -> Result<(), AllocError>
-    ensures { OnOk result (line.new.items ≡ line.old.items ++ blank_before_each (decimal at ∷ word.now ∷ [])) }
-{
-    add_number_word(line, at)?;
-    add_word(line, word)
-}
-
-/// Adds where a body's fault stands and what it is.
-fn add_body(line: &mut Vec<u8>, fault: BodyFault) -> Result<(), AllocError>
-    ensures { OnOk result (line.new.items ≡ line.old.items ++ blank_before_each (body_words fault)) }
-{
-    match fault {
-        BodyFault::Index { at } => add_at(line, at, b"Index"),
-        BodyFault::Align { at } => add_at(line, at, b"Align"),
-        BodyFault::Immutable { at } => add_at(line, at, b"Immutable"),
-        BodyFault::Trust { at } => add_at(line, at, b"Trust"),
-        BodyFault::SecretPlace { at, rule } => {
-            add_at(line, at, b"SecretPlace")?;
-            add_word(line, rule_word(rule))
-        }
-        BodyFault::WrongType { at } => add_at(line, at, b"WrongType"),
-        BodyFault::NoMemory => Ok(()),
-    }
-}
-
-/// Adds a kind, and the item that it is about.
-fn add_item(line: &mut Vec<u8>, kind: &[u8], space: Space, index: u32) -> Result<(), AllocError>
-    ensures { OnOk result (line.new.items
-        ≡ line.old.items ++ blank_before_each (kind.now ∷ space_word space ∷ decimal index ∷ [])) }
+/// Adds a kind and a part's name.
+fn add_part(line: &mut Vec<u8>, kind: &[u8], part: &str) -> Result<(), AllocError>
+    ensures { OnOk result (line.new.items ≡ line.old.items ++ blank_before_each (kind.now ∷ part.now ∷ [])) }
 {
     add_word(line, kind)?;
-    add_word(line, space_word(space))?;
-    add_number_word(line, index)
+    add_word(line, part.as_bytes())
 }
 
-/// Adds a body's fault with its function.
-fn add_function(line: &mut Vec<u8>, f: u32, fault: BodyFault) -> Result<(), AllocError>
-    ensures { OnOk result (line.new.items
-        ≡ line.old.items ++ blank_before_each (codes "Body" ∷ decimal f ∷ codes "at" ∷ body_words fault)) }
-{
-    add_word(line, b"Body")?;
-    add_number_word(line, f)?;
-    add_word(line, b"at")?;
-    add_body(line, fault)
-}
-
-/// Adds a kind and a number.
-pub fn add_numbered(line: &mut Vec<u8>, kind: &[u8], number: u32) -> Result<(), AllocError>
-    ensures { OnOk result (line.new.items ≡ line.old.items ++ blank_before_each (kind.now ∷ decimal number ∷ [])) }
-{
-    add_word(line, kind)?;
-    add_number_word(line, number)
-}
-
-/// Adds what is wrong with a module.
-fn add_invalid(line: &mut Vec<u8>, fault: Invalid) -> Result<(), AllocError>
-    ensures { OnOk result (line.new.items ≡ line.old.items ++ blank_before_each (invalid_words fault)) }
+/// Adds why a set isn't launched.
+fn add_launch_fault(
+    line: &mut Vec<u8>,
+    parts: &[LoadedPart],
+    fault: LaunchFault,
+) -> Result<(), AllocError>
+    ensures { (set : List Part) (f : Launched.LaunchFault) → AreNamed (set_of set) parts.now → fault ≢ NoMemory
+        → TellsFault set fault f
+        → OnOk result (line.new.items ≡ line.old.items ++ blank_before_each (launch_words f)) }
 {
     match fault {
-        Invalid::Body { f, fault } => add_function(line, f, fault),
-        Invalid::ModuleIndex { space, index } => add_item(line, b"ModuleIndex", space, index),
-        Invalid::DoubleExport { index } => add_numbered(line, b"DoubleExport", index),
-        Invalid::ConstExpr { space, index } => add_item(line, b"ConstExpr", space, index),
-        Invalid::LimitsOrder { space } => {
-            add_word(line, b"LimitsOrder")?;
-            add_word(line, space_word(space))
+        LaunchFault::SegmentOutside { part, space, index } => {
+            add_part(line, b"SegmentOutside", part_name(parts, part))?;
+            add_space(line, space)?;
+            add_number_word(line, index)
         }
-        Invalid::StartType => add_word(line, b"StartType"),
-        Invalid::SegmentType { space, index } => add_item(line, b"SegmentType", space, index),
-        Invalid::Variant { index } => add_numbered(line, b"Variant", index),
-        Invalid::NoMemory => Ok(()),
+        LaunchFault::StartTrapped { part, code } => {
+            add_part(line, b"StartTrapped", part_name(parts, part))?;
+            add_word(line, trap_word(code))
+        }
+        LaunchFault::StartUnfinished { part } => {
+            add_part(line, b"StartUnfinished", part_name(parts, part))
+        }
+        LaunchFault::NoMemory => Ok(()),
     }
 }
 
-/// The line for a module that isn't valid.
-pub fn check_line(alloc: Global, word: &str, fault: Invalid) -> Result<Vec<u8>, AllocError>
-    ensures { IfOk result (λ line. line.items ≡ check_line word.now fault) }
+/// The line for a set that isn't launched.
+pub fn launch_line(
+    alloc: Global,
+    parts: &[LoadedPart],
+    fault: LaunchFault,
+) -> Result<Vec<u8>, AllocError>
+    ensures { (set : List Part) (f : Launched.LaunchFault) → AreNamed (set_of set) parts.now → fault ≢ NoMemory
+        → TellsFault set fault f → IfOk result (λ line. line.items ≡ launch_line f) }
 {
-    let mut line = Vec::from_slice(alloc, b"refused check")?;
-    add_word(&mut line, word.as_bytes())?;
-    add_invalid(&mut line, fault)?;
+    let mut line = Vec::from_slice(alloc, b"refused launch")?;
+    add_launch_fault(&mut line, parts, fault)?;
     line.push(b'\n')?;
     Ok(line)
+}
+
+/// The lines of a move: those of its events in their order, and then that of its reply.
+pub fn move_text(alloc: Global, events: &[Event], reply: &Reply) -> Result<Vec<u8>, AllocError>
+    ensures { IfOk result (λ text. text.items ≡ told_line (record { events = events.now; reply = reply.now })) }
+{
+    let mut text = Vec::new(alloc);
+    'events: for event in events {
+        event_text(event, &mut text)?;
+    }
+    reply_text(reply, &mut text)?;
+    Ok(text)
 }

@@ -1,9 +1,15 @@
-// The words of a command.
+//! The words of a command.
 ghost use Rattle.std.specs.Prelude.{◌≡◌, ◌≤◌, map, filter_map, option_map, is_some, length, string_bytes, IfOk};
+ghost use Rattle.std.specs.List.{list_any};
+ghost use Rattle.std.specs.Str.{bytes_eq};
 ghost use Rattle.ctw_script.specs.MoveValues.{argument_value};
-ghost use Rattle.ctwasm_top.specs.Words.{once_words, named_file, named_files, link_words, check_command, canon_command, profiled_command, mul_command, command_of, same_file, arguments_of};
-ghost use Rattle.ctwasm_top.specs.Commands.{part_named, command_in};
+ghost use Rattle.ctw_inputs.specs.Parts.{part_named};
+ghost use Rattle.ctwasm_top.specs.NamedFiles.{named_file, named_files};
+ghost use Rattle.ctwasm_top.specs.SessionWords.{arguments_of, part_words, run_words, once_words, same_in_run, same_in_once};
+ghost use Rattle.ctwasm_top.specs.Words.{file_words, link_words, profiled_command, mul_command, command_of};
+ghost use Rattle.ctwasm_top.specs.Commands.{command_in};
 
+use ctw_inputs::PartFile;
 use ctw_ops::Profile;
 use ctw_script::{Arg, argument};
 use std::alloc::{AllocError, Global};
@@ -45,7 +51,7 @@ impl<'a> Model for ArgumentWords<'a> {
     ghost use Rattle.std.specs.Prelude.{◌≡◌, List, Some, map, filter_map, string_bytes};
     ghost use Rattle.ctw_script.specs.declared.moves.Arg.{Arg as AnArg};
     ghost use Rattle.ctw_script.specs.MoveValues.{argument_value};
-    ghost use Rattle.ctwasm_top.specs.OnceWords.{arguments_of};
+    ghost use Rattle.ctwasm_top.specs.SessionWords.{arguments_of};
 
     ghost Value = { List AnArg };
 
@@ -85,7 +91,7 @@ pub struct Once<'a> {
 }
 
 impl<'a> Model for Once<'a> {
-    ghost use Rattle.ctwasm_top.specs.OnceWords.{OnceWords};
+    ghost use Rattle.ctwasm_top.specs.SessionWords.{OnceWords};
 
     ghost Value = { OnceWords };
 
@@ -101,15 +107,6 @@ impl<'a> Model for Once<'a> {
 
 /// The most parts of a command.
 const MOST_PARTS: usize = 64;
-
-/// A part's name, and the file of its module.
-#[derive(Clone, Copy, Debug, PartialEq, Eq)]
-pub struct PartFile<'a> {
-    /// The name, which isn't empty.
-    pub name: &'a str,
-    /// The file.
-    pub file: &'a str,
-}
 
 /// What a word NAME=M names; None where it has another form.
 fn part_file(word: &str) -> Option<PartFile<'_>>
@@ -134,15 +131,16 @@ fn are_named(words: &[String]) -> bool
     true
 }
 
-/// The words behind `link`, 1 to 64 of the form NAME=M. Contracts see the parts that they name.
+/// Words of the form NAME=M, 1 to 64. Contracts see the parts that they name.
 #[derive(Drop)]
-pub struct LinkWords<'a> {
+pub struct PartWords<'a> {
     words: &'a [String],
 }
 
-impl<'a> Model for LinkWords<'a> {
+impl<'a> Model for PartWords<'a> {
     ghost use Rattle.std.specs.Prelude.{◌≡◌, ◌≤◌, List, Some, map, length, filter_map, string_bytes};
-    ghost use Rattle.ctwasm_top.specs.NamedFiles.{NamedFile, named_file, named_files};
+    ghost use Rattle.ctw_inputs.specs.Inputs.{NamedFile};
+    ghost use Rattle.ctwasm_top.specs.NamedFiles.{named_file, named_files};
 
     ghost Value = { List NamedFile };
 
@@ -166,7 +164,7 @@ fn part_files<'a>(alloc: Global, words: &'a [String]) -> Result<Vec<PartFile<'a>
     Ok(parts)
 }
 
-impl<'a> LinkWords<'a> {
+impl<'a> PartWords<'a> {
     /// The parts that they name, in order.
     pub fn parts(&self, alloc: Global) -> Result<Vec<PartFile<'a>>, AllocError>
         ensures named { IfOk result (λ parts. map part_named parts.items ≡ self.now) }
@@ -177,8 +175,35 @@ impl<'a> LinkWords<'a> {
     }
 }
 
-/// The words of `link`; None where they have another form.
-fn link_words(words: &[String]) -> Option<LinkWords<'_>>
+impl<'a> PartWords<'a> {
+    /// Whether one of the parts has this file.
+    fn has_file(&self, file: &str) -> bool
+        ensures { result ≡ list_any (bytes_eq file.now) (map (λ p. p.file) self.now) }
+    {
+        'words: for word in self.words {
+            let Some(part) = part_file(word.as_str()) else {
+                continue 'words;
+            };
+            if file == part.file {
+                return true;
+            }
+        }
+        false
+    }
+}
+
+/// 1 to 64 words NAME=M; None where they have another form.
+fn part_words(words: &[String]) -> Option<PartWords<'_>>
+    ensures { result ≡ part_words (map string_bytes words.now) }
+{
+    if words.is_empty() || words.len() > MOST_PARTS || !are_named(words) {
+        return None;
+    }
+    Some(PartWords { words })
+}
+
+/// The words behind `link`; None where they have another form.
+fn link_words(words: &[String]) -> Option<PartWords<'_>>
     ensures { result ≡ link_words (map string_bytes words.now) }
 {
     let [command, parts @ ..] = words else {
@@ -187,10 +212,62 @@ fn link_words(words: &[String]) -> Option<LinkWords<'_>>
     if command.as_str() != "link" {
         return None;
     }
-    if parts.is_empty() || parts.len() > MOST_PARTS || !are_named(parts) {
+    part_words(parts)
+}
+
+/// The words of `run SCRIPT VAULT SEALED NAME=M..`.
+#[derive(Drop)]
+pub struct Run<'a> {
+    pub script: &'a str,
+    pub vault: &'a str,
+    pub sealed: &'a str,
+    pub parts: PartWords<'a>,
+}
+
+impl<'a> Model for Run<'a> {
+    ghost use Rattle.ctwasm_top.specs.SessionWords.{RunWords};
+
+    ghost Value = { RunWords };
+
+    ghost view = { λ w.
+        record { script = w.script.now; vault = w.vault.now; sealed = w.sealed.now; parts = w.parts } };
+}
+
+impl<'a> Run<'a> {
+    /// VAULT where it is the word of another file too, else SEALED where it is.
+    pub fn same_file(&self) -> Option<&'a str>
+        ensures { option_map (λ word. word.now) result ≡ same_in_run self.now }
+    {
+        if self.vault == self.sealed
+            || self.vault == self.script
+            || self.parts.has_file(self.vault)
+        {
+            return Some(self.vault);
+        }
+        if self.sealed == self.script || self.parts.has_file(self.sealed) {
+            return Some(self.sealed);
+        }
+        None
+    }
+}
+
+/// The words of `run`; None where they have another form.
+fn run_words(words: &[String]) -> Option<Run<'_>>
+    ensures { result ≡ run_words (map string_bytes words.now) }
+{
+    let [command, script, vault, sealed, others @ ..] = words else {
+        return None;
+    };
+    if command.as_str() != "run" {
         return None;
     }
-    Some(LinkWords { words: parts })
+    let parts = part_words(others)?;
+    Some(Run {
+        script: script.as_str(),
+        vault: vault.as_str(),
+        sealed: sealed.as_str(),
+        parts,
+    })
 }
 
 /// The words of `once`; None where they have another form.
@@ -213,6 +290,21 @@ fn once_words(words: &[String]) -> Option<Once<'_>>
     })
 }
 
+impl<'a> Once<'a> {
+    /// VAULT where it is the word of another file too, else SEALED where it is.
+    pub fn same_file(&self) -> Option<&'a str>
+        ensures { option_map (λ word. word.now) result ≡ same_in_once self.now }
+    {
+        if self.vault == self.sealed || self.vault == self.module_file {
+            return Some(self.vault);
+        }
+        if self.sealed == self.module_file {
+            return Some(self.sealed);
+        }
+        None
+    }
+}
+
 /// A command with its words.
 #[derive(Drop)]
 pub enum Command<'a> {
@@ -220,47 +312,47 @@ pub enum Command<'a> {
     Check(Profile, &'a str),
     /// `canon M`.
     Canon(&'a str),
+    /// `strip M`, under a profile.
+    Strip(Profile, &'a str),
     /// `link NAME=M..`, under a profile.
-    Link(Profile, LinkWords<'a>),
-    /// `once M VAULT SEALED EXPORT ARG..`.
-    Once(Once<'a>),
+    Link(Profile, PartWords<'a>),
+    /// `run SCRIPT VAULT SEALED NAME=M..`, under a profile.
+    Run(Profile, Run<'a>),
+    /// `once M VAULT SEALED EXPORT ARG..`, under a profile.
+    Once(Profile, Once<'a>),
 }
 
-/// `check M` under a profile; None where the words have another form.
-fn check_command(profile: Profile, words: &[String]) -> Option<Command<'_>>
-    ensures { option_map command_in result ≡ check_command profile (map string_bytes words.now) }
+/// The one word behind that of a command; None where the words have another form.
+fn file_word<'a>(name: &str, words: &'a [String]) -> Option<&'a str>
+    ensures { option_map (λ file. file.now) result ≡ file_words name.now (map string_bytes words.now) }
 {
     let [command, file] = words else {
         return None;
     };
-    if command.as_str() != "check" {
+    if command.as_str() != name {
         return None;
     }
-    Some(Command::Check(profile, file.as_str()))
-}
-
-/// `canon M`; None where the words have another form.
-fn canon_command(words: &[String]) -> Option<Command<'_>>
-    ensures { option_map command_in result ≡ canon_command (map string_bytes words.now) }
-{
-    let [command, file] = words else {
-        return None;
-    };
-    if command.as_str() != "canon" {
-        return None;
-    }
-    Some(Command::Canon(file.as_str()))
+    Some(file.as_str())
 }
 
 /// The command to which a profile matters; None where the words have the form of none.
 fn profiled_command(profile: Profile, words: &[String]) -> Option<Command<'_>>
     ensures { option_map command_in result ≡ profiled_command profile (map string_bytes words.now) }
 {
-    if let Some(command) = check_command(profile, words) {
-        return Some(command);
+    if let Some(file) = file_word("check", words) {
+        return Some(Command::Check(profile, file));
     }
-    match link_words(words) {
-        Some(parts) => Some(Command::Link(profile, parts)),
+    if let Some(file) = file_word("strip", words) {
+        return Some(Command::Strip(profile, file));
+    }
+    if let Some(parts) = link_words(words) {
+        return Some(Command::Link(profile, parts));
+    }
+    if let Some(run) = run_words(words) {
+        return Some(Command::Run(profile, run));
+    }
+    match once_words(words) {
+        Some(once) => Some(Command::Once(profile, once)),
         None => None,
     }
 }
@@ -288,26 +380,8 @@ pub fn command_of(words: &[String]) -> Option<Command<'_>>
     if let Some(command) = mul_command(words) {
         return Some(command);
     }
-    if let Some(command) = canon_command(words) {
-        return Some(command);
-    }
-    match once_words(words) {
-        Some(once) => Some(Command::Once(once)),
+    match file_word("canon", words) {
+        Some(file) => Some(Command::Canon(file)),
         None => None,
-    }
-}
-
-impl<'a> Once<'a> {
-    /// The first of VAULT and SEALED that another word names too.
-    pub fn same_file(&self) -> Option<&'a str>
-        ensures { option_map (λ word. word.now) result ≡ same_file self.now }
-    {
-        if self.module_file == self.vault || self.sealed == self.vault {
-            return Some(self.vault);
-        }
-        if self.module_file == self.sealed {
-            return Some(self.sealed);
-        }
-        None
     }
 }

@@ -1,26 +1,82 @@
-use Rattle.std.proofs.Common.{map, string_bytes, sym, ap, ◌∙◌, Some}
+use Rattle.std.proofs.Common.{[], Some, Ok, map, string_bytes, sym, ap, ◌∙◌}
 use Rattle.ctwasm_top.specs.declared.words.Command.{Command}
 use Rattle.ctwasm_top.specs.Usage.{usage_text}
 use Rattle.ctwasm_top.specs.Commands.{command_in}
-use Rattle.ctwasm_top.proofs.Dispatched.{on_command}
+use Rattle.ctwasm_top.proofs.Dispatched.{on_command, reads_command, command_reads, says_command, settled_causes, written_causes}
 use Rattle.ctwasm_top.proofs.dispatch.Goals as goal
+
+-- ---- wrong words
 
 pub returns-in-None-clause-did : goal.returns-in-None-clause-did
 unfolding usage_text
-returns-in-None-clause-did g c = λ files told. on_command (map string_bytes c.args.words.now) files c.say.result _ _ _ _ (sym c.in-None.ensures) (record { files = files; told = told; did = c.say.ensures.did files })
+returns-in-None-clause-did g c = λ files reading told h. on_command (map string_bytes c.args.words.now) files _ (sym c.in-None.ensures) reading c.say.result _ _ _ (record { files = files; told = told; did = c.say.ensures.did files })
+
+pub returns-in-None-clause-read : goal.returns-in-None-clause-read
+returns-in-None-clause-read g c = λ files told done. (Ok [], command_reads (map string_bytes c.args.words.now) files _ (sym c.in-None.ensures) (Ok []) tt)
+
+pub returns-in-None-clause-causes : goal.returns-in-None-clause-causes
+returns-in-None-clause-causes g c = written_causes c.say.result _ _ _ _ _ c.say.ensures.write c.say.ensures.quiet
 
 pub returns-in-None-clause-no_form : goal.returns-in-None-clause-no_form
 unfolding usage_text
 returns-in-None-clause-no_form g c = λ files e. c.say.ensures.did files
 
+-- ---- texts
+
 pub returns-in-Some-Check-clause-did : goal.returns-in-Some-Check-clause-did
-returns-in-Some-Check-clause-did g c = λ files told. on_command (map string_bytes c.args.words.now) files c.check_file.result _ _ _ _ (sym c.in-Some-Check.ensures ∙ ap (λ (k : Command). Some (command_in k)) c.in-Some-Check.field-0-is) (c.check_file.ensures.did files told)
+returns-in-Some-Check-clause-did g c = λ files reading told h.
+    says_command (map string_bytes c.args.words.now) files _ (sym c.in-Some-Check.ensures ∙ ap (λ (k : Command). Some (command_in k)) c.in-Some-Check.field-0-is) reading c.settle.result c.check_file.result _ _ _ _ told c.check_file.ensures.unchanged (c.check_file.ensures.told files told) c.settle.ensures.did
+
+pub returns-in-Some-Check-clause-read : goal.returns-in-Some-Check-clause-read
+returns-in-Some-Check-clause-read g c = λ files told done. (Ok [], command_reads (map string_bytes c.args.words.now) files _ (sym c.in-Some-Check.ensures ∙ ap (λ (k : Command). Some (command_in k)) c.in-Some-Check.field-0-is) (Ok []) tt)
+
+pub returns-in-Some-Check-clause-causes : goal.returns-in-Some-Check-clause-causes
+returns-in-Some-Check-clause-causes g c = settled_causes c.settle.result c.check_file.result _ _ _ _ _ _ c.check_file.ensures.cause c.settle.ensures.read c.settle.ensures.write c.settle.ensures.quiet.0
 
 pub returns-in-Some-Canon-clause-did : goal.returns-in-Some-Canon-clause-did
-returns-in-Some-Canon-clause-did g c = λ files told. on_command (map string_bytes c.args.words.now) files c.canon_file.result _ _ _ _ (sym c.in-Some-Canon.ensures ∙ ap (λ (k : Command). Some (command_in k)) c.in-Some-Canon.field-0-is) (c.canon_file.ensures.did files told)
+returns-in-Some-Canon-clause-did g c = λ files reading told h.
+    says_command (map string_bytes c.args.words.now) files _ (sym c.in-Some-Canon.ensures ∙ ap (λ (k : Command). Some (command_in k)) c.in-Some-Canon.field-0-is) reading c.settle-in-Some-Canon.result c.canon_file.result _ _ _ _ told c.canon_file.ensures.unchanged (c.canon_file.ensures.told files told) c.settle-in-Some-Canon.ensures.did
+
+pub returns-in-Some-Canon-clause-read : goal.returns-in-Some-Canon-clause-read
+returns-in-Some-Canon-clause-read g c = λ files told done. (Ok [], command_reads (map string_bytes c.args.words.now) files _ (sym c.in-Some-Canon.ensures ∙ ap (λ (k : Command). Some (command_in k)) c.in-Some-Canon.field-0-is) (Ok []) tt)
+
+pub returns-in-Some-Canon-clause-causes : goal.returns-in-Some-Canon-clause-causes
+returns-in-Some-Canon-clause-causes g c = settled_causes c.settle-in-Some-Canon.result c.canon_file.result _ _ _ _ _ _ c.canon_file.ensures.cause c.settle-in-Some-Canon.ensures.read c.settle-in-Some-Canon.ensures.write c.settle-in-Some-Canon.ensures.quiet.0
+
+pub returns-in-Some-Strip-clause-did : goal.returns-in-Some-Strip-clause-did
+returns-in-Some-Strip-clause-did g c = λ files reading told h.
+    says_command (map string_bytes c.args.words.now) files _ (sym c.in-Some-Strip.ensures ∙ ap (λ (k : Command). Some (command_in k)) c.in-Some-Strip.field-0-is) reading c.settle-in-Some-Strip.result c.strip_file.result _ _ _ _ told c.strip_file.ensures.unchanged (c.strip_file.ensures.told files told) c.settle-in-Some-Strip.ensures.did
+
+pub returns-in-Some-Strip-clause-read : goal.returns-in-Some-Strip-clause-read
+returns-in-Some-Strip-clause-read g c = λ files told done. (Ok [], command_reads (map string_bytes c.args.words.now) files _ (sym c.in-Some-Strip.ensures ∙ ap (λ (k : Command). Some (command_in k)) c.in-Some-Strip.field-0-is) (Ok []) tt)
+
+pub returns-in-Some-Strip-clause-causes : goal.returns-in-Some-Strip-clause-causes
+returns-in-Some-Strip-clause-causes g c = settled_causes c.settle-in-Some-Strip.result c.strip_file.result _ _ _ _ _ _ c.strip_file.ensures.cause c.settle-in-Some-Strip.ensures.read c.settle-in-Some-Strip.ensures.write c.settle-in-Some-Strip.ensures.quiet.0
 
 pub returns-in-Some-Link-clause-did : goal.returns-in-Some-Link-clause-did
-returns-in-Some-Link-clause-did g c = λ files told. on_command (map string_bytes c.args.words.now) files c.link_files.result _ _ _ _ (sym c.in-Some-Link.ensures ∙ ap (λ (k : Command). Some (command_in k)) c.in-Some-Link.field-0-is) (c.link_files.ensures.did files told)
+returns-in-Some-Link-clause-did g c = λ files reading told h.
+    says_command (map string_bytes c.args.words.now) files _ (sym c.in-Some-Link.ensures ∙ ap (λ (k : Command). Some (command_in k)) c.in-Some-Link.field-0-is) reading c.settle-in-Some-Link.result c.link_files.result _ _ _ _ told c.link_files.ensures.unchanged (c.link_files.ensures.told files told) c.settle-in-Some-Link.ensures.did
+
+pub returns-in-Some-Link-clause-read : goal.returns-in-Some-Link-clause-read
+returns-in-Some-Link-clause-read g c = λ files told done. (Ok [], command_reads (map string_bytes c.args.words.now) files _ (sym c.in-Some-Link.ensures ∙ ap (λ (k : Command). Some (command_in k)) c.in-Some-Link.field-0-is) (Ok []) tt)
+
+pub returns-in-Some-Link-clause-causes : goal.returns-in-Some-Link-clause-causes
+returns-in-Some-Link-clause-causes g c = settled_causes c.settle-in-Some-Link.result c.link_files.result _ _ _ _ _ _ c.link_files.ensures.cause c.settle-in-Some-Link.ensures.read c.settle-in-Some-Link.ensures.write c.settle-in-Some-Link.ensures.quiet.0
+
+-- ---- runs
+
+pub returns-in-Some-Run-clause-did : goal.returns-in-Some-Run-clause-did
+returns-in-Some-Run-clause-did g c = λ files reading told h.
+    let e = (sym c.in-Some-Run.ensures ∙ ap (λ (k : Command). Some (command_in k)) c.in-Some-Run.field-0-is) in
+    on_command (map string_bytes c.args.words.now) files _ e reading c.run.result _ _ _ (c.run.ensures.did files reading told (reads_command (map string_bytes c.args.words.now) files _ e reading h))
+
+pub returns-in-Some-Run-clause-read : goal.returns-in-Some-Run-clause-read
+returns-in-Some-Run-clause-read g c = λ files told done.
+    let read = c.run.ensures.read files told done in
+    (Ok read.0, command_reads (map string_bytes c.args.words.now) files _ (sym c.in-Some-Run.ensures ∙ ap (λ (k : Command). Some (command_in k)) c.in-Some-Run.field-0-is) (Ok read.0) read.1)
 
 pub returns-in-Some-Once-clause-did : goal.returns-in-Some-Once-clause-did
-returns-in-Some-Once-clause-did g c = λ files told. on_command (map string_bytes c.args.words.now) files c.run_once.result _ _ _ _ (sym c.in-Some-Once.ensures ∙ ap (λ (k : Command). Some (command_in k)) c.in-Some-Once.field-0-is) (c.run_once.ensures.did files told)
+returns-in-Some-Once-clause-did g c = λ files reading told h. on_command (map string_bytes c.args.words.now) files _ (sym c.in-Some-Once.ensures ∙ ap (λ (k : Command). Some (command_in k)) c.in-Some-Once.field-0-is) reading c.once.result _ _ _ (c.once.ensures.did files told)
+
+pub returns-in-Some-Once-clause-read : goal.returns-in-Some-Once-clause-read
+returns-in-Some-Once-clause-read g c = λ files told done. (Ok [], command_reads (map string_bytes c.args.words.now) files _ (sym c.in-Some-Once.ensures ∙ ap (λ (k : Command). Some (command_in k)) c.in-Some-Once.field-0-is) (Ok []) tt)

@@ -1,5 +1,5 @@
 use Rattle.std.proofs.Common.{◌≡◌, map, drop, is_some, string_bytes}
-use Rattle.ctwasm_top.specs.OnceWords.{arguments_of}
+use Rattle.ctwasm_top.specs.SessionWords.{arguments_of}
 use Rattle.ctwasm_top.proofs.words.are_arguments.Given as goal
 
 abbrev pub invariant-words : goal.invariant-words

@@ -1,5 +1,5 @@
 use Rattle.std.proofs.Common.{string_bytes, sym, ap, ◌∙◌}
-use Rattle.ctwasm_top.specs.Commands.{part_named}
+use Rattle.ctw_inputs.specs.Parts.{part_named}
 use Rattle.ctwasm_top.specs.NamedFiles.{named_file}
 use Rattle.ctwasm_top.proofs.WordsRead.{one_bad}
 use Rattle.ctwasm_top.proofs.words.are_named.Goals as goal

@@ -1,7 +1,7 @@
 use Rattle.std.proofs.Common.{◌≡◌, true, false, None, Some, option_map, length, sym, ap, ◌∙◌, arith}
 use Rattle.std.proofs.lemmas.Bool.{eq-eqb}
 use Rattle.std.proofs.lemmas.Str.Pattern.{split_parts}
-use Rattle.ctwasm_top.specs.Commands.{part_named}
+use Rattle.ctw_inputs.specs.Parts.{part_named}
 use Rattle.ctwasm_top.proofs.WordsCut.{not_cut, cut_named}
 use Rattle.ctwasm_top.proofs.words.part_file.Goals as goal
 

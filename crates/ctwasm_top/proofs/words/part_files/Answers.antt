@@ -1,6 +1,6 @@
 use Rattle.std.proofs.Common.{map, string_bytes, Some, None, append-nil, sym, ap, ◌∙◌, ◌∷◌, []}
 use Rattle.std.proofs.lemmas.List.{map-append}
-use Rattle.ctwasm_top.specs.Commands.{part_named}
+use Rattle.ctw_inputs.specs.Parts.{part_named}
 use Rattle.ctwasm_top.specs.NamedFiles.{named_file}
 use Rattle.ctwasm_top.proofs.WordsRead.{found_more, found_all}
 use Rattle.ctwasm_top.proofs.words.part_files.Goals as goal

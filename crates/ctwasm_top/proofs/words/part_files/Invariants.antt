@@ -1,5 +1,5 @@
 use Rattle.std.proofs.Common.{◌≡◌, map, take, filter_map, string_bytes}
-use Rattle.ctwasm_top.specs.Commands.{part_named}
+use Rattle.ctw_inputs.specs.Parts.{part_named}
 use Rattle.ctwasm_top.specs.NamedFiles.{named_file}
 use Rattle.ctwasm_top.proofs.words.part_files.Given as goal
 

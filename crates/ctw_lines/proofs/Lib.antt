@@ -1,0 +1,4 @@
+pub mod WordsText
+pub mod Rests
+pub mod TypeBytes
+pub mod TypesText
