@@ -12,3 +12,12 @@ pub mod DenotedTexts
 pub mod FaultyTexts
 pub mod Table
 pub mod Viable
+pub mod GatheredCode
+pub mod GatheredFields
+pub mod Atoms
+pub mod PrintableModules
+pub mod NamedBack
+pub mod LimitedBack
+pub mod LaidOut
+pub mod AsciiText
+pub mod ReadBack
