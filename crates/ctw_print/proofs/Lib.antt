@@ -1,0 +1,15 @@
+pub mod Listed
+pub mod Walked
+pub mod Joined
+pub mod Keywords
+pub mod Finite
+pub mod Instructions
+pub mod Shown
+pub mod Fitting
+pub mod CustomBytes
+pub mod Profiles
+pub mod Kept
+pub mod ReadBack
+pub mod Inked
+pub mod InkedCode
+pub mod InkedModule
