@@ -31,7 +31,7 @@ may_any : (t : Trust) → may_call t Untrusted ≡ true
 may_any Untrusted = refl
 may_any Trusted = refl
 
-abbrev AreUntrusted : List (FunctionType Tag) → Type 0
+abbrev pub AreUntrusted : List (FunctionType Tag) → Type 0
 AreUntrusted gs = (k : ℕ) (g : FunctionType Tag) → slice_get gs k ≡ Some g → g.trust ≡ Untrusted
 
 -- ---- the numbering in a function of another trust, with other releases
@@ -40,7 +40,7 @@ module _ {A : Type 0} (P : BodyPlace A) (free : ℕ → Bool) (t : Trust) where
   abbrev Q : BodyPlace A
   Q = record P { free = free }
 
-  under : (C : Context Tag) → AreUntrusted C.functions → (n : ℕ) (i : Leaf A) → IsPlainInstr i → (o : Operands Tag) → stepped P C n i o ≡ stepped Q (record C { trust = t }) n i o
+  pub under : (C : Context Tag) → AreUntrusted C.functions → (n : ℕ) (i : Leaf A) → IsPlainInstr i → (o : Operands Tag) → stepped P C n i o ≡ stepped Q (record C { trust = t }) n i o
   under C u n (Call f) q o = by_found (slice_get C.functions f) refl
     where
       by_found : (r : Option (FunctionType Tag)) → slice_get C.functions f ≡ r → and_then r (λ g. when (may_call C.trust g.trust) (moved yes g.params (optional g.result) o)) ≡ and_then r (λ g. when (may_call t g.trust) (moved yes g.params (optional g.result) o))
@@ -53,7 +53,7 @@ module _ {A : Type 0} (P : BodyPlace A) (free : ℕ → Bool) (t : Trust) where
   under C u n (Declassify w) q o = absurd q
   under C u n i q o = refl
 
-  same_push : (name : SiteName) (b f g : Bool) (k : ℕ) (r : Option (Operands Tag)) → push_if name (lift_of b f k r) ≡ push_if name (lift_of b g k r)
+  pub same_push : (name : SiteName) (b f g : Bool) (k : ℕ) (r : Option (Operands Tag)) → push_if name (lift_of b f k r) ≡ push_if name (lift_of b g k r)
   same_push name false f g k r = refl
   same_push name true f g k None = refl
   same_push name true f g k (Some m) = by_slots m.slots
@@ -64,7 +64,7 @@ module _ {A : Type 0} (P : BodyPlace A) (free : ℕ → Bool) (t : Trust) where
       by_slots (Wide a ∷ xs) = refl
       by_slots (Unknown ∷ xs) = refl
 
-  same_after : (b f g : Bool) (k : ℕ) (r : Option (Operands Tag)) → after_lift (lift_of b f k r) r ≡ after_lift (lift_of b g k r) r
+  pub same_after : (b f g : Bool) (k : ℕ) (r : Option (Operands Tag)) → after_lift (lift_of b f k r) r ≡ after_lift (lift_of b g k r) r
   same_after false f g k r = refl
   same_after true f g k None = refl
   same_after true f g k (Some m) = by_slots m.dead m.slots
@@ -127,7 +127,7 @@ module _ {A : Type 0} (P : BodyPlace A) (free : ℕ → Bool) (t : Trust) where
       let w = at_same D rest (number P C rest (n + length own + length B + length E) (at + opcode_count arm + opcode_count other + 3) (behind_block (P.free at) n r m)) _ (n + length own + length B' + length E') (at + opcode_count arm + opcode_count other + 3) _ (behind_block (free at) n r m) (λ i. n + length own + length (b.0 i) + length (c.0 i)) (same_behind (P.free at) (free at) n r m) (number_same C u rest q.2 _ _ _) in
       ((λ j. own ++ b.0 j ++ c.0 j ++ w.0 j), w.1)
 
-sited_untrusted : (m : Module Label) → AreUntrusted (sited_functions m)
+pub sited_untrusted : (m : Module Label) → AreUntrusted (sited_functions m)
 sited_untrusted m = from 0 (function_entries m)
   where
     from : (n : ℕ) (ys : List ℕ) → AreUntrusted (types_from m n ys)

@@ -33,7 +33,7 @@ use Rattle.ctw_sites.proofs.PackedLaws.{after_both}
 use Rattle.ctw_sites.proofs.ScopeLaws.{heads_length, heads_within}
 
 -- the first site of a function's parameters, where those of the first function's begin at `q`
-abbrev head_at : Module Label → ℕ → List (Function Label) → ℕ → ℕ
+abbrev pub head_at : Module Label → ℕ → List (Function Label) → ℕ → ℕ
 head_at m q [] i = q
 head_at m q (f ∷ fs) zero = q
 head_at m q (f ∷ fs) (suc i) = head_at m (q + site_count (type_named m f.type)) fs i
@@ -51,7 +51,7 @@ heads_at m q [] i F e = cc
 heads_at m q (f ∷ fs) zero F e = refl
 heads_at m q (f ∷ fs) (suc i) F e = heads_at m (q + site_count (type_named m f.type)) fs i F e
 
-head_defined : (m : Module Label) (f : ℕ) (F : Function Label) → imported_count m ≤ f → slice_get m.functions (f - imported_count m) ≡ Some F → slice_get (heads m) f ≡ Some (head_at m (first_defined m) m.functions (f - imported_count m))
+pub head_defined : (m : Module Label) (f : ℕ) (F : Function Label) → imported_count m ≤ f → slice_get m.functions (f - imported_count m) ≡ Some F → slice_get (heads m) f ≡ Some (head_at m (first_defined m) m.functions (f - imported_count m))
 head_defined m f F le e =
     let I : List ℕ = imported_functions m.imports in
     let T : List ℕ = map (λ f. f.type) m.functions in
@@ -70,7 +70,7 @@ there [] i lt = absurd (omega (arith, lt))
 there (f ∷ fs) zero lt = (f, refl)
 there (f ∷ fs) (suc i) lt = there fs i (omega (arith, lt))
 
-named_is : (m : Module Label) (f : ℕ) → imported_count m ≤ f → function_named m f ≡ slice_get m.functions (f - imported_count m)
+pub named_is : (m : Module Label) (f : ℕ) → imported_count m ≤ f → function_named m f ≡ slice_get m.functions (f - imported_count m)
 named_is m f le = ap (λ b. if b then None else slice_get m.functions (f - imported_count m)) (le-ltb f (imported_count m) le)
 
 pub is_defined : (m : Module Label) (f : ℕ) → imported_count m ≤ f → f < length (function_entries m) → (F : Function Label) × (function_named m f ≡ Some F)

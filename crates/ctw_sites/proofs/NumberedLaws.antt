@@ -61,8 +61,8 @@ module _ (w : Lent) (h : IsPlainFile w) where
       }
 
   -- what is read back of the words that are kept
-  pub kept_back : (words : List ℕ) (n : ℕ) → record { words = words; count = n } ≡ after (record { words = []; count = 0 }) (sites (view_module w)) → n ≤ most_sites → unpacked (firsts_of (view_module w)) 0 words ≡ sites (view_module w)
-  kept_back words n e le =
+  pub kept_back : (words : List ℕ) (n most : ℕ) → record { words = words; count = n; most = most } ≡ after (record { words = []; count = 0; most = most_sites }) (sites (view_module w)) → n ≤ most_sites → unpacked (firsts_of (view_module w)) 0 words ≡ sites (view_module w)
+  kept_back words n most e le =
       let xs : List Site = sites (view_module w) in
       let c : n ≡ 0 + length xs = ap (λ (k : Kept). k.count) e in
       let all : take (most_sites - 0) xs ≡ xs = take_all (most_sites - 0) xs (omega (arith, c, le)) in
@@ -100,14 +100,14 @@ pub record Held (w : Lent) (t : Firsts) (words : List ℕ) : Type 0 where
   pub back : unpacked t 0 words ≡ sites (view_module w)
 
 -- what the walk leaves is held as it should be
-pub held : (w : Lent) → IsPlainFile w → (hs ss words : List ℕ) (i n : ℕ)
-    → record { words = words; count = n } ≡ after (record { words = []; count = 0 }) (sites (view_module w)) → n ≤ most_sites → hs ≡ heads (view_module w) → ss ≡ starts_from (length (head_sites (view_module w))) (bodies (view_module w) no_points)
+pub held : (w : Lent) → IsPlainFile w → (hs ss words : List ℕ) (i n most : ℕ)
+    → record { words = words; count = n; most = most } ≡ after (record { words = []; count = 0; most = most_sites }) (sites (view_module w)) → n ≤ most_sites → hs ≡ heads (view_module w) → ss ≡ starts_from (length (head_sites (view_module w))) (bodies (view_module w) no_points)
     → i ≡ imported_count (tree w) → Held w (record { heads = hs; starts = ss; imported = i }) words
-held w h hs ss words i n e le p q r =
+held w h hs ss words i n most e le p q r =
     let m : Module Label = view_module w in
     let t : Firsts = record { heads = hs; starts = ss; imported = i } in
     let same : t ≡ firsts_of m = λ j. record { heads = p j; starts = q j; imported = r j } in
-    let back : unpacked t 0 words ≡ sites m = ap (λ z. unpacked z 0 words) same ∙ kept_back w h words n e le in
+    let back : unpacked t 0 words ≡ sites m = ap (λ z. unpacked z 0 words) same ∙ kept_back w h words n most e le in
     let c : n ≡ 0 + length (sites m) = ap (λ (k : Kept). k.count) e in
     record {
       table = subst IsTable (sym same) (module_table m (functions_fit w h));

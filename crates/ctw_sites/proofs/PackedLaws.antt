@@ -5,7 +5,7 @@ use Rattle.ctw_labels.specs.declared.name.SiteName.{SiteName}
 use Rattle.ctw_labels.specs.Names.{Site, site}
 use Rattle.ctw_labels.specs.Numbering.{sites_for}
 use Rattle.ctw_sites.specs.Leaves.{named_from}
-use Rattle.ctw_sites.specs.Packed.{packed, most_sites, words_of, Kept, after}
+use Rattle.ctw_sites.specs.Packed.{packed, words_of, Kept, after}
 
 take_none : (n : ℕ) → take {A = Site} n [] ≡ []
 take_none zero = refl
@@ -16,23 +16,23 @@ take_both n [] ys = let e : n ≡ n - 0 = omega arith in ap (λ k. take k ys) e 
 take_both zero (x ∷ xs) ys = let e : 0 ≡ 0 - suc (length xs) = omega arith in ap (λ k. take k ys) e
 take_both (suc n) (x ∷ xs) ys = let e : n - length xs ≡ suc n - suc (length xs) = omega arith in ap (λ z. x ∷ z) (take_both n xs ys ∙ ap (λ k. take n xs ++ take k ys) e)
 
-pub words_both : (c : ℕ) (xs ys : List Site) → words_of c (xs ++ ys) ≡ words_of c xs ++ words_of (c + length xs) ys
-words_both c xs ys =
-    let e : most_sites - c - length xs ≡ most_sites - (c + length xs) = omega arith in
-    ap (map (λ s. packed s.name s.yields)) (take_both (most_sites - c) xs ys ∙ ap (λ k. take (most_sites - c) xs ++ take k ys) e)
-    ∙ map-append (λ (s : Site). packed s.name s.yields) (take (most_sites - c) xs) (take (most_sites - (c + length xs)) ys)
+pub words_both : (most c : ℕ) (xs ys : List Site) → words_of most c (xs ++ ys) ≡ words_of most c xs ++ words_of most (c + length xs) ys
+words_both most c xs ys =
+    let e : most - c - length xs ≡ most - (c + length xs) = omega arith in
+    ap (map (λ s. packed s.name s.yields)) (take_both (most - c) xs ys ∙ ap (λ k. take (most - c) xs ++ take k ys) e)
+    ∙ map-append (λ (s : Site). packed s.name s.yields) (take (most - c) xs) (take (most - (c + length xs)) ys)
 
 pub after_both : (k : Kept) (xs ys : List Site) → after (after k xs) ys ≡ after k (xs ++ ys)
 after_both k xs ys =
-    let w : (k.words ++ words_of k.count xs) ++ words_of (k.count + length xs) ys ≡ k.words ++ words_of k.count (xs ++ ys) = append_assoc k.words (words_of k.count xs) (words_of (k.count + length xs) ys) ∙ ap (λ z. k.words ++ z) (sym (words_both k.count xs ys)) in
+    let w : (k.words ++ words_of k.most k.count xs) ++ words_of k.most (k.count + length xs) ys ≡ k.words ++ words_of k.most k.count (xs ++ ys) = append_assoc k.words (words_of k.most k.count xs) (words_of k.most (k.count + length xs) ys) ∙ ap (λ z. k.words ++ z) (sym (words_both k.most k.count xs ys)) in
     let c : k.count + length xs + length ys ≡ k.count + length (xs ++ ys) = let l = length-append xs ys in omega arith in
-    λ i. record { words = w i; count = c i }
+    λ i. record { words = w i; count = c i; most = k.most }
 
 pub after_none : (k : Kept) → after k [] ≡ k
 after_none k =
-    let w : k.words ++ words_of k.count [] ≡ k.words = ap (λ z. k.words ++ map (λ s. packed s.name s.yields) z) (take_none (most_sites - k.count)) ∙ append-nil k.words in
+    let w : k.words ++ words_of k.most k.count [] ≡ k.words = ap (λ z. k.words ++ map (λ s. packed s.name s.yields) z) (take_none (k.most - k.count)) ∙ append-nil k.words in
     let c : k.count + 0 ≡ k.count = omega arith in
-    λ i. record { words = w i; count = c i }
+    λ i. record { words = w i; count = c i; most = k.most }
 
 -- one more site of a list of them
 more_named : (name : ℕ → SiteName) (i k : ℕ) → named_from name k (suc i) ≡ named_from name k i ++ site (name (k + i)) ∷ []

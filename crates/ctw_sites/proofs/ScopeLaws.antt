@@ -21,6 +21,7 @@ use Rattle.ctw_labels.specs.SitedModule.{site_count, sited_functions, first_glob
 use Rattle.ctw_labels.proofs.Contexts.{type_length}
 use Rattle.ctw_sites.specs.Rows.{takes_alone, gives_of, call_row}
 use Rattle.ctw_sites.specs.Heads.{heads_from, heads, own_type, declared, type_of_some, declared_of_some}
+use Rattle.ctw_sites.specs.Tags.{tags_from}
 
 pub params_at : {A : Type 0} (n : ℕ) (ts : List (ValueType A)) (x : ℕ) → slice_get (params_from n ts) x ≡ option_map (λ t. value_type t.width (At (n + x))) (slice_get ts x)
 params_at n [] x = refl
@@ -185,3 +186,17 @@ head_room m hs f y p g e lt q w r =
 
 pub locals_number : (m : Module Label) (f c : ℕ) → c ≡ length (locals_named m f) → c ≡ length (own_type m f).params + length (declared m f)
 locals_number m f c e = omega (arith, e, ap length (locals_split m f), length-append (own_type m f).params (declared m f))
+
+-- a function's parameters as tags
+pub tags_are : {A : Type 0} (n : ℕ) (ts : List (ValueType A)) → tags_from n (length ts) ≡ map (λ t. t.tag) (params_from n ts)
+tags_are n [] = refl
+tags_are n (t ∷ ts) = ap (λ z. At n ∷ z) (tags_are (n + 1) ts)
+
+pub params_none : (m : Module Label) (i : ℕ) → length (heads m) ≤ i → None ≡ option_map (λ g. map (λ t. t.tag) g.params) (slice_get (sited_functions m) i)
+params_none m i le = sym (ap (option_map (λ g. map (λ t. t.tag) g.params)) (slice_get_past (sited_functions m) i (let a = heads_length m 0 (function_entries m) in let b = types_length m 0 (function_entries m) in omega (arith, a, b, le))))
+
+pub params_given : (m : Module Label) (i y p h : ℕ) → i < length (heads m) → slice_get (function_entries m) i ≡ Some y → p ≡ length (type_named m y).params → h ≡ get_or (heads m) i 0
+    → Some (tags_from h p) ≡ option_map (λ g. map (λ t. t.tag) g.params) (slice_get (sited_functions m) i)
+params_given m i y p h lt e q r =
+    (λ j. Some (tags_from (r j) (q j))) ∙ ap Some (tags_are (get_or (heads m) i 0) (type_named m y).params)
+    ∙ sym (ap (option_map (λ g. map (λ t. t.tag) g.params)) (types_at m 0 (function_entries m) i y (get_or (heads m) i 0) e (slice_get-get_or (heads m) i 0 lt)))

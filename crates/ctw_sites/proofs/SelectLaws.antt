@@ -22,16 +22,15 @@ pub width_is : (b : List (Open Tag)) → of_innermost chosen_width b ≡ widths 
 width_is [] = refl
 width_is (v ∷ outer) = refl
 
-pub known_pushed : (n s : ℕ) (w : Width) (b : List (Open Tag)) → s ≡ n + 1 → widths b ≡ Some w → after_push (Known w (At s)) (without (without (without b))) ≡ on_innermost (selected n) b
-known_pushed n s w [] e f = refl
-known_pushed n s w (v ∷ outer) e f = ap (λ z. with_operands v (push (Known w (At z)) (rests 3 v.operands)) ∷ outer) e ∙ ap (λ z. with_operands v (push (chosen_slot n z) (rests 3 v.operands)) ∷ outer) (sym f)
+pub known_put : (n s : ℕ) (w : Width) (b : List (Open Tag)) → s ≡ n + 1 → after_push (Known w (At s)) b ≡ on_innermost (push (chosen_slot n (Some w))) b
+known_put n s w [] e = refl
+known_put n s w (v ∷ outer) e = ap (λ z. with_operands v (push (Known w (At z)) v.operands) ∷ outer) e
 
-pub wide_pushed : (n : ℕ) (b : List (Open Tag)) → widths b ≡ None → after_push (Wide (At n)) (without (without (without b))) ≡ on_innermost (selected n) b
-wide_pushed n [] f = refl
-wide_pushed n (v ∷ outer) f = ap (λ z. with_operands v (push (chosen_slot n z) (rests 3 v.operands)) ∷ outer) (sym f)
+pub wide_put : (n : ℕ) (b : List (Open Tag)) → after_push (Wide (At n)) b ≡ on_innermost (push (chosen_slot n None)) b
+wide_put n [] = refl
+wide_put n (v ∷ outer) = refl
 
-pub push_chosen : (n : ℕ) (name : SiteName) (w : Width) (b : List (Open Tag)) → widths b ≡ Some w → push_site name (Some n) ∷ [] ≡ chosen_push n name (of_innermost chosen_width b)
-push_chosen n name w b f = ap (chosen_push n name) (sym (width_is b ∙ f))
-
-pub none_chosen : (n : ℕ) (name : SiteName) (b : List (Open Tag)) → widths b ≡ None → [] ≡ chosen_push n name (of_innermost chosen_width b)
-none_chosen n name b f = ap (chosen_push n name) (sym (width_is b ∙ f))
+-- what is put on by the width of the operands is what the `select` leaves
+pub put_is : (n : ℕ) (w : Option Width) (b : List (Open Tag)) → w ≡ widths b → on_innermost (push (chosen_slot n w)) (without (without (without b))) ≡ on_innermost (selected n) b
+put_is n w [] f = refl
+put_is n w (v ∷ outer) f = ap (λ z. with_operands v (push (chosen_slot n z) (rests 3 v.operands)) ∷ outer) f

@@ -10,4 +10,5 @@ pub mod Rows
 pub mod Scope
 pub mod Stacks
 pub mod Starts
+pub mod Tags
 pub mod Unpacked

@@ -24,18 +24,23 @@ packed (Push f at) y = packed_word 7 at (yield_index y)
 packed (IParam f at i) y = packed_word 8 at i
 packed (IResult f at) y = packed_word 9 at 0
 
--- the words of the first sites, and how many sites there are
+-- the words of the first sites, how many sites there are, and of how many words are kept at most
 pub record Kept : Type 0 where
   pub words : List ℕ
   pub count : ℕ
+  pub most : ℕ
 
 -- as many sites as a module may have
 abbrev pub most_sites : ℕ
 most_sites = 16777216
 
-abbrev pub words_of : ℕ → List Site → List ℕ
-words_of count sites = map (λ s. packed s.name s.yields) (take (most_sites - count) sites)
+abbrev pub words_of : ℕ → ℕ → List Site → List ℕ
+words_of most count sites = map (λ s. packed s.name s.yields) (take (most - count) sites)
 
 -- with more sites, whose words are kept up to the limit
 abbrev pub after : Kept → List Site → Kept
-after k sites = record { words = k.words ++ words_of k.count sites; count = k.count + length sites }
+after k sites = record {
+  words = k.words ++ words_of k.most k.count sites;
+  count = k.count + length sites;
+  most = k.most;
+}

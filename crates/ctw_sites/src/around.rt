@@ -1,4 +1,4 @@
-ghost use Rattle.std.specs.Prelude.{◌≡◌, ◌≤◌, ◌<◌, ◌+◌, ◌^◌, Some, Option, length, map, option_map, unwrap_or, slice_get};
+ghost use Rattle.std.specs.Prelude.{◌≡◌, ◌≤◌, ◌<◌, ◌+◌, ◌^◌, Some, Option, length, map, option_map, unwrap_or, slice_get, IfSome};
 ghost use Rattle.ctw_ops.specs.Types.{value_type};
 ghost use Rattle.ctw_ops.specs.Tree.{function_entries, global_types, type_named};
 ghost use Rattle.ctw_module.specs.Trees.{tree, view_module};
@@ -9,12 +9,13 @@ ghost use Rattle.ctw_labels.specs.Numbering.{type_from};
 ghost use Rattle.ctw_labels.specs.SitedModule.{first_global, memory_site};
 ghost use Rattle.ctw_sites.specs.Rows.{call_row as row_of_call};
 ghost use Rattle.ctw_sites.specs.Heads.{heads as heads_of, own_type, declared};
+ghost use Rattle.ctw_sites.specs.Tags.{tags_from};
 
 use crate::head::signature;
 use crate::row::Row;
 use ctw_labels::Tag;
 use ctw_module::Module;
-use ctw_ops::{GlobalType, ValType, Width};
+use ctw_ops::{GlobalType, Profile, ValType, Width};
 
 /// What a defined function's body may name, besides its labels, with the sites of each.
 #[derive(Drop)]
@@ -116,6 +117,20 @@ impl<'a> Around<'a> {
         signature(self.whole, y)
     }
 
+    /// The first site of a function, and how many parameters it has; None exactly where there is no such function.
+    pub fn params(&self, index: u32) -> Option<(u32, u32)>
+        ensures room { IfSome result (λ p. p.0 + p.1 < 2 ^ 32) }
+        ensures tags { option_map (λ p. tags_from p.0 p.1) result
+            ≡ option_map (λ g. map (λ t. t.tag) g.params) (slice_get (functions_of self.now) index) }
+    {
+        let i = index as usize;
+        if i >= self.heads.len() {
+            return None;
+        }
+        let (params, _) = self.signature(self.whole.type_of_func(index));
+        Some((self.heads[i], params))
+    }
+
     /// The row of a call of a function.
     pub fn call_row(&self, index: u32) -> Row
         ensures { result ≡ row_of_call 0 (slice_get (functions_of self.now) index) }
@@ -171,6 +186,13 @@ impl<'a> Around<'a> {
         }
         let site = self.globals + g;
         Some(placed_global(self.whole.global(g).ty, site))
+    }
+
+    /// What the module is taken to leak.
+    pub fn profile(&self) -> Profile
+        ensures { result ≡ (scope self.now).profile }
+    {
+        self.whole.profile()
     }
 
     /// The memory's site.

@@ -1,4 +1,4 @@
-ghost use Rattle.std.specs.Prelude.{◌≡◌, ◌<◌, ◌^◌, [], ◌+◌, length, OnOk};
+ghost use Rattle.std.specs.Prelude.{◌≡◌, ◌<◌, ◌^◌, [], ◌+◌, length, IfOk, OnOk};
 ghost use Rattle.ctw_ops.specs.Plain.{IsPlainModule};
 ghost use Rattle.ctw_ops.specs.Valid.{IsValid};
 ghost use Rattle.ctw_module.specs.Trees.{view_module};
@@ -25,6 +25,20 @@ fn behind_functions(m: &Module) -> u32
     }
 }
 
+/// Adds the sites of functions, globals and the memory, and the first site of each function to `heads`. It answers the
+/// site of the first global.
+pub fn gather_head(m: &Module, packer: &mut Packer, heads: &mut Vec<u32>) -> Result<u32, AllocError>
+    requires room { length (head_sites (view_module m.now)) < 2 ^ 32 }
+    requires empty { packer.old.count ≡ 0 }
+    requires headless { heads.old.items ≡ [] }
+    ensures sites { OnOk result (packer.new ≡ after packer.old (head_sites (view_module m.now))) }
+    ensures heads { OnOk result (heads.new.items ≡ heads_of (view_module m.now)) }
+    ensures globals { IfOk result (λ globals. globals ≡ first_global (view_module m.now)) }
+{
+    add_head(m, packer, heads)?;
+    Ok(packer.count - behind_functions(m))
+}
+
 /// Adds all sites of a module, the first one of each function to `heads`, and the first one of each body to `starts`.
 pub fn gather(
     alloc: Global,
@@ -36,7 +50,7 @@ pub fn gather(
     requires plain { IsPlainModule (view_module m.now) }
     requires valid { IsValid (view_module m.now) }
     requires room { length (sites (view_module m.now)) < 2 ^ 32 }
-    requires empty { packer.old ≡ record { words = []; count = 0 } }
+    requires empty { packer.old.count ≡ 0 }
     requires headless { heads.old.items ≡ [] }
     requires none { starts.old.items ≡ [] }
     ensures sites { OnOk result (packer.new ≡ after packer.old (sites (view_module m.now))) }
@@ -44,7 +58,6 @@ pub fn gather(
     ensures starts { OnOk result (starts.new.items
         ≡ starts_from (length (head_sites (view_module m.now))) (bodies (view_module m.now) no_points)) }
 {
-    add_head(m, packer, heads)?;
-    let globals = packer.count - behind_functions(m);
+    let globals = gather_head(m, packer, heads)?;
     add_bodies(alloc, m, heads, globals, packer, starts)
 }

@@ -1,20 +1,20 @@
 //! The sites of a plain module, labels for them, flows through them, and release points.
 #![tactic(auto)]
 
-mod around;
+pub mod around;
 mod bodies;
 mod body;
-mod control;
+pub mod control;
 mod fault;
-mod gather;
-mod head;
+pub mod gather;
+pub mod head;
 mod labelling;
-mod leaf;
-mod packer;
-mod pass;
+pub mod leaf;
+pub mod packer;
+pub mod pass;
 mod points;
-mod row;
-mod select;
+pub mod row;
+pub mod select;
 mod sites;
 mod unpack;
 mod witness;

@@ -9,13 +9,15 @@ use std::marker::Model;
 /// As many sites as a module may have.
 pub const MOST_SITES: u32 = 16_777_216;
 
-/// The words of sites one after another, up to the limit, and how many sites there are.
+/// The words of sites one after another, up to a limit, and how many sites there are.
 #[derive(Drop)]
 pub struct Packer {
     /// The words.
     pub words: Vec<u64>,
     /// How many sites there are.
     pub count: u32,
+    // Of how many sites the words are kept.
+    most: u32,
 }
 
 impl Model for Packer {
@@ -23,7 +25,7 @@ impl Model for Packer {
 
     ghost Value = { Kept };
 
-    ghost view = { λ p. record { words = p.words.items; count = p.count } };
+    ghost view = { λ p. record { words = p.words.items; count = p.count; most = p.most } };
 }
 
 /// A word of these parts.
@@ -65,13 +67,14 @@ fn pack(name: SiteName, yields: Option<u32>) -> u64
 }
 
 impl Packer {
-    /// Without sites.
-    pub fn new(alloc: Global) -> Packer
-        ensures { result ≡ record { words = []; count = 0 } }
+    /// Without sites. The words of so many will be kept at most.
+    pub fn new(alloc: Global, most: u32) -> Packer
+        ensures { result ≡ record { words = []; count = 0; most = most } }
     {
         Packer {
             words: Vec::new(alloc),
             count: 0,
+            most,
         }
     }
 
@@ -80,7 +83,7 @@ impl Packer {
         requires { self.old.count + 1 < 2 ^ 32 }
         ensures { OnOk result (self.new ≡ after self.old (push_site name yields ∷ [])) }
     {
-        if self.count < MOST_SITES {
+        if self.count < self.most {
             self.words.push(pack(name, yields))?;
         }
         self.count += 1;

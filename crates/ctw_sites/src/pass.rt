@@ -22,7 +22,7 @@ use ctw_stack::Stack;
 use std::alloc::AllocError;
 
 /// Whether an instruction is a `select`.
-fn is_select(instr: &Instr) -> bool
+pub fn is_select(instr: &Instr) -> bool
     ensures { result ≡ is_select_op (op_of instr.now) }
 {
     matches!(*instr, Instr::Select { .. })
@@ -39,7 +39,7 @@ fn site_of(tag: Tag) -> Option<u32>
 }
 
 /// Adds the site of the push that a row says.
-fn push_row(packer: &mut Packer, row: &Row, f: u32, at: u32) -> Result<(), AllocError>
+pub fn push_row(packer: &mut Packer, row: &Row, f: u32, at: u32) -> Result<(), AllocError>
     requires { packer.old.count + length (push_by (Push f at) row.now) < 2 ^ 32 }
     ensures { OnOk result (packer.new ≡ after packer.old (push_by (Push f at) row.now)) }
 {

@@ -76,7 +76,7 @@ impl Sites {
     {
         // A plain file is so short that all site numbers fit into 32 bits.
         let _ = m.bytes();
-        let mut packer = Packer::new(alloc);
+        let mut packer = Packer::new(alloc, MOST_SITES);
         let mut heads = Vec::new(alloc);
         let mut starts = Vec::new(alloc);
         gather(alloc, m, &mut packer, &mut heads, &mut starts)?;

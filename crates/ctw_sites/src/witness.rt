@@ -34,9 +34,11 @@ impl Witness {
         Witness { sites, rules, last }
     }
 
-    /// How many sites there are.
+    /// How many sites there are: at least one, and one more than rules.
     pub fn count(&self) -> u32
-        ensures { result ≡ length self.now.sites }
+        ensures count { result ≡ length self.now.sites }
+        ensures some { 0 < result }
+        ensures linked { length self.now.rules + 1 ≡ result }
     {
         self.sites.len() as u32
     }

@@ -7,21 +7,8 @@ use Rattle.ctw_sites.proofs.Answered.{ok_then}
 use Rattle.ctw_sites.proofs.PackedLaws.{after_both}
 use Rattle.ctw_sites.proofs.gather.gather.Goals as goal
 
-pub overflow_sub-globals : goal.overflow_sub-globals
-overflow_sub-globals c =
-    let a = ap (λ z. z.count) (c.packer.view_is ∙ c.in_ok-add_head.ensures.sites) in
-    let b = c.behind_functions.ensures in
-    omega (arith, a, b)
-
-pub add_bodies-requires-clause-globals : goal.add_bodies-requires-clause-globals
-add_bodies-requires-clause-globals c =
-    let a = ap (λ z. z.count) (c.packer.view_is ∙ c.in_ok-add_head.ensures.sites) in
-    let b = c.behind_functions.ensures in
-    let e = ap (λ z. z.count) c.requires.empty in
-    omega (arith, a, b, e)
-
 pub returns-clause-sites : goal.returns-clause-sites
 returns-clause-sites c =
     let m = view_module c.args.m.now in
     ok_then c.add_bodies.result c.add_bodies.ensures.sites (λ e.
-    e ∙ ap (λ z. after z (body_sites (bodies m no_points))) c.in_ok-add_head.ensures.sites ∙ after_both c.args.packer.now (head_sites m) (body_sites (bodies m no_points)))
+    e ∙ ap (λ z. after z (body_sites (bodies m no_points))) c.in_ok-globals.ensures.sites ∙ after_both c.args.packer.now (head_sites m) (body_sites (bodies m no_points)))

@@ -13,7 +13,7 @@ gather-requires-clause-room c =
 all_held : (c : goal.After-imported_count) → Held c.args.m.now (record { heads = c.gather.new.heads.items; starts = c.gather.new.starts.items; imported = c.imported_count.result }) c.packer.inside.words.items
 all_held c =
     held c.args.m.now (record { spelled = c.bytes.ensures.spelled; limits = c.bytes.ensures.limits; plain = c.requires.plain })
-    c.gather.new.heads.items c.gather.new.starts.items c.packer.inside.words.items c.imported_count.result c.packer.inside.count
+    c.gather.new.heads.items c.gather.new.starts.items c.packer.inside.words.items c.imported_count.result c.packer.inside.count c.packer.inside.most
     (c.packer.view_is ∙ c.in_ok-gather.ensures.sites ∙ ap (λ z. after z (sites (view_module c.args.m.now))) c.new-packer.ensures)
     c.if-packer-gt-MOST_SITES.false c.in_ok-gather.ensures.heads c.in_ok-gather.ensures.starts c.imported_count.ensures
 
