@@ -44,6 +44,8 @@ fn words_of_no_command_are_a_wrong_use(rt: HostRuntime) {
         "run t v s =m",
         "run t v s m=m m",
         "strip",
+        "text",
+        "text m m",
         "strip m m",
         "check",
         "canon m m",

@@ -27,7 +27,7 @@ use Rattle.ctw_inputs.specs.Outcome.{Outcome}
 use Rattle.ctw_inputs.specs.Inputs.{NamedFile, at_most, module_limit, modules_limit, script_limit, vault_limit, refuses, on_file, load_modules, on_text, on_moves, on_form, on_fault, module_under, read_parts, on_set, linked}
 use Rattle.ctwasm_top.specs.Lines.{told_lines}
 use Rattle.ctwasm_top.specs.SessionWords.{OnceWords, RunWords, same_file, same_in_once, same_in_run}
-use Rattle.ctwasm_top.specs.Words.{Command, Check, Canon, Strip, Link, Run as Runs, Once, command_of, vault_in, vault_word}
+use Rattle.ctwasm_top.specs.Words.{Command, Check, Canon, Text, Strip, Link, Run as Runs, Once, command_of, vault_in, vault_word}
 use Rattle.ctwasm_top.specs.Answer.{on_launch, ran, launched, unless_same, once_part, once_moves, once_answer, run_answer, on_words, answer, released_in, releases}
 use Rattle.ctwasm_top.specs.Headline.{OtherVault, SameOutcome}
 
@@ -183,6 +183,7 @@ words_alike : (reading : Result (List Move) ScriptFault) (o : Option Command) (v
 words_alike reading None vault f g e d = let n : None ≡ Some vault = e in absurd cc
 words_alike reading (Some (Check profile file)) vault f g e d = let n : None ≡ Some vault = e in absurd cc
 words_alike reading (Some (Canon file)) vault f g e d = let n : None ≡ Some vault = e in absurd cc
+words_alike reading (Some (Text profile file)) vault f g e d = let n : None ≡ Some vault = e in absurd cc
 words_alike reading (Some (Strip profile file)) vault f g e d = let n : None ≡ Some vault = e in absurd cc
 words_alike reading (Some (Link profile parts)) vault f g e d = let n : None ≡ Some vault = e in absurd cc
 words_alike reading (Some (Runs profile w)) vault f g e d = let n : Some w.vault ≡ Some vault = e in let q : w.vault ≡ vault = cc in run_alike f g profile reading w (subst (λ (v : List ℕ). OtherVault v f g) (sym q) d)

@@ -1,9 +1,8 @@
 -- The answer of the program, word by word.
-use Rattle.std.proofs.Common.{◌≡◌, ◌≢◌, ℕ, List, Option, Some, Result, Ok, Err, sym, ◌∙◌, subst}
+use Rattle.std.proofs.Common.{◌≡◌, ◌≢◌, ℕ, List, Option, Some, None, Result, Ok, Err, refl, sym, ◌∙◌, subst}
 use Rattle.ctw_io.specs.Files.{Files}
 use Rattle.ctw_io.specs.Faults.{Rose}
 use Rattle.ctw_ops.specs.declared.numeric.Profile.{Profile}
-use Rattle.ctw_ops.specs.declared.numeric.Profile.TheVariants.{Divide, Multiply}
 use Rattle.ctw_script.specs.declared.moves.Move.{Move}
 use Rattle.ctw_script.specs.declared.script.ScriptFault.{ScriptFault}
 use Rattle.ctw_inputs.specs.Saying.{Saying}
@@ -14,10 +13,10 @@ use Rattle.ctw_inputs.specs.declared.said.Status.TheVariants as status
 use Rattle.ctw_inputs.specs.Outcome.{Outcome}
 use Rattle.ctw_inputs.specs.Settling.{SaysSo, HasReadCause, Reads}
 use Rattle.ctwasm_top.specs.SessionWords.{RunWords}
-use Rattle.ctwasm_top.specs.Words.{Command, Run, command_of}
+use Rattle.ctwasm_top.specs.Words.{Command, Run, LoadsFiles, command_of}
 use Rattle.ctwasm_top.specs.Answer.{on_words, answer, ReadsScript}
 use Rattle.ctwasm_top.specs.Headline.{Did, DidTold, HasCauses}
-use Rattle.ctwasm_top.specs.ValidCalls.{HoldsScript, check_words, canon_words}
+use Rattle.ctwasm_top.specs.ValidCalls.{HoldsScript}
 
 -- ---- the words of a command
 
@@ -33,6 +32,10 @@ module _ (words : List (List ℕ)) (files : Files) (o : Option Command) (e : com
   pub command_reads : (reading : Result (List Move) ScriptFault) → ReadsScript o files reading → ReadsScript (command_of words) files reading
   command_reads reading h = subst (λ (o : Option Command). ReadsScript o files reading) (sym e) h
 
+pub command_causes : (words : List (List ℕ)) (o : Option Command) → command_of words ≡ o → (result : Status) (shelf shelf_after out out_after : ℕ) (taken took : Option (List ℕ))
+    → HasCauses o result shelf shelf_after out out_after taken took → HasCauses (command_of words) result shelf shelf_after out out_after taken took
+command_causes words o e result shelf shelf_after out out_after taken took h = subst (λ (o : Option Command). HasCauses o result shelf shelf_after out out_after taken took) (sym e) h
+
 -- ---- what is written of a text
 
 -- no file is changed
@@ -41,17 +44,21 @@ pub says_command : (words : List (List ℕ)) (files : Files) (o : Option Command
 says_command words files o e reading result said before after taken took told unchanged says did =
     on_command words files o e reading result after taken took (record { files = files; told = unchanged ∙ told; did = did files (on_words files reading o) says })
 
-pub settled_causes : (result : Status) (said : Result Saying Stop) (shelf shelf_after out out_after : ℕ) (taken took : Option (List ℕ)) → HasReadCause shelf shelf_after said
-    → (result ≡ status.ReadFault → (said ≡ Err stop.ReadFault) × (took ≡ taken)) → (result ≡ status.WriteFault → Rose out out_after) → result ≢ status.SaveFault → HasCauses result shelf shelf_after out out_after taken took
-settled_causes result said shelf shelf_after out out_after taken took cause read write quiet = record {
-  read = λ e. (cause.failed (read e).0, (read e).1);
+pub settled_causes : (command : Option Command) (result : Status) (said : Result Saying Stop) (shelf shelf_after out out_after : ℕ) (taken took : Option (List ℕ)) → LoadsFiles command → HasReadCause shelf shelf_after said
+    → (result ≡ status.ReadFault → (said ≡ Err stop.ReadFault) × (took ≡ taken)) → (result ≡ status.WriteFault → Rose out out_after) → (result ≢ status.SaveFault) × (result ≢ status.Usage)
+    → HasCauses command result shelf shelf_after out out_after taken took
+settled_causes command result said shelf shelf_after out out_after taken took loads cause read write quiet = record {
+  usage = λ e. absurd (quiet.1 e);
+  read = λ e. (loads, cause.failed (read e).0, (read e).1);
   write = write;
-  save = λ e. absurd (quiet e);
+  save = λ e. absurd (quiet.0 e);
 }
 
+-- for wrong words
 pub written_causes : (result : Status) (shelf out out_after : ℕ) (taken took : Option (List ℕ)) → (result ≡ status.WriteFault → Rose out out_after) → (result ≢ status.ReadFault) × (result ≢ status.SaveFault)
-    → HasCauses result shelf shelf out out_after taken took
+    → HasCauses None result shelf shelf out out_after taken took
 written_causes result shelf out out_after taken took write quiet = record {
+  usage = λ e. refl;
   read = λ e. absurd (quiet.0 e);
   write = write;
   save = λ e. absurd (quiet.1 e);
@@ -67,17 +74,6 @@ module _ (words : List (List ℕ)) (files : Files) (reading : Result (List Move)
   refused_answer d e = sym (subst (λ (s : Status). DidTold s (answer words files reading) files after taken took) e d).did.0
 
 -- ---- readings
-
--- commands without a script have any
-check_form_reads : (profile : Profile) (name : List ℕ) (files : Files) (reading : Result (List Move) ScriptFault) → ReadsScript (command_of (check_words profile name)) files reading
-check_form_reads Divide name files reading = tt
-check_form_reads Multiply name files reading = tt
-
-pub check_reads : (words : List (List ℕ)) (profile : Profile) (name : List ℕ) (files : Files) (reading : Result (List Move) ScriptFault) → words ≡ check_words profile name → ReadsScript (command_of words) files reading
-check_reads words profile name files reading e = subst (λ (w : List (List ℕ)). ReadsScript (command_of w) files reading) (sym e) (check_form_reads profile name files reading)
-
-pub canon_reads : (words : List (List ℕ)) (name : List ℕ) (files : Files) (reading : Result (List Move) ScriptFault) → words ≡ canon_words name → ReadsScript (command_of words) files reading
-canon_reads words name files reading e = subst (λ (w : List (List ℕ)). ReadsScript (command_of w) files reading) (sym e) tt
 
 -- the file of a script is one
 pub script_reads : (profile : Profile) (w : RunWords) (files : Files) (h : HoldsScript files w.script) → ReadsScript (Some (Run profile w)) files (Ok h.moves)

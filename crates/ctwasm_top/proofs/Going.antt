@@ -51,6 +51,33 @@ HoldBytes files left [] [] = Unit {0}
 HoldBytes files left (part ∷ parts) (bytes ∷ others) = (get files part.file ≡ Some bytes) × (length bytes ≤ at_most module_limit left) × HoldBytes files (left - length bytes) parts others
 HoldBytes files left parts others = ⊥
 
+-- what `run` has come with to the launch of its parts: the script's text and moves, the vault's bytes, and those of the
+-- modules' files
+pub record RunComes (Q : Outcome → Type 0) (files : Files) (profile : Profile) (reading : Result (List Move) ScriptFault) (w : RunWords) : Type 0 where
+  pub alone : same_in_run w ≡ None
+  pub text : List ℕ
+  pub script : get files w.script ≡ Some text
+  pub text_short : length text ≤ script_limit
+  pub is_text : is_utf8 text ≡ true
+  pub moves : List Move
+  pub read : reading ≡ Ok moves
+  pub bytes : List ℕ
+  pub vault : get files w.vault ≡ Some bytes
+  pub vault_short : length bytes ≤ vault_limit
+  pub contents : List (List ℕ)
+  pub held : HoldBytes files modules_limit w.parts contents
+  pub launches : Q (launched profile w.parts contents bytes (ran w.sealed moves))
+
+-- and `once`
+pub record OnceComes (Q : Outcome → Type 0) (files : Files) (profile : Profile) (w : OnceWords) : Type 0 where
+  pub alone : same_in_once w ≡ None
+  pub bytes : List ℕ
+  pub vault : get files w.vault ≡ Some bytes
+  pub vault_short : length bytes ≤ vault_limit
+  pub contents : List (List ℕ)
+  pub held : HoldBytes files modules_limit (once_part w ∷ []) contents
+  pub launches : Q (launched profile (once_part w ∷ []) contents bytes (ran w.sealed (once_moves w)))
+
 -- what no refusal has
 module _ (Q : Outcome → Type 0) (never : (line : List ℕ) → Q (ends Refused line) → ⊥) where
   pub file_goes : (name : List ℕ) (limit : ℕ) (o : Option (List ℕ)) (go : List ℕ → Outcome) → Q (on_file name limit o go) → (bytes : List ℕ) × (o ≡ Some bytes) × (length bytes ≤ limit) × Q (go bytes)
@@ -131,8 +158,7 @@ module _ (Q : Outcome → Type 0) (never : (line : List ℕ) → Q (ends Refused
       (f.0, v.1)
 
   -- `run` and `once` come to the launch of their parts
-  pub run_goes : (files : Files) (profile : Profile) (reading : Result (List Move) ScriptFault) (w : RunWords) → Q (run_answer files profile reading w)
-      → (contents : List (List ℕ)) × (vault : List ℕ) × (moves : List Move) × HoldBytes files modules_limit w.parts contents × (get files w.vault ≡ Some vault) × Q (launched profile w.parts contents vault (ran w.sealed moves))
+  pub run_goes : (files : Files) (profile : Profile) (reading : Result (List Move) ScriptFault) (w : RunWords) → Q (run_answer files profile reading w) → RunComes Q files profile reading w
   run_goes files profile reading w q =
       let last = λ (contents : List (List ℕ)) (vault : List ℕ) (moves : List Move). launched profile w.parts contents vault (ran w.sealed moves) in
       let read = λ (script vault : List ℕ) (contents : List (List ℕ)). on_text w.script script (λ (text : List ℕ). on_moves reading (last contents vault)) in
@@ -143,15 +169,27 @@ module _ (Q : Outcome → Type 0) (never : (line : List ℕ) → Q (ends Refused
       let c = load_goes files modules_limit w.parts (read s.0 v.0) v.3 in
       let t = text_goes w.script s.0 (λ (text : List ℕ). on_moves reading (last c.0 v.0)) c.2 in
       let m = moves_go reading (last c.0 v.0) t.1 in
-      (c.0, v.0, m.0, c.1, v.1, m.2)
+      record {
+        alone = u.0;
+        text = s.0;
+        script = s.1;
+        text_short = s.2;
+        is_text = t.0;
+        moves = m.0;
+        read = m.1;
+        bytes = v.0;
+        vault = v.1;
+        vault_short = v.2;
+        contents = c.0;
+        held = c.1;
+        launches = m.2;
+      }
 
-  pub once_goes : (files : Files) (profile : Profile) (w : OnceWords) → Q (once_answer files profile w)
-      → (contents : List (List ℕ)) × (vault : List ℕ) × HoldBytes files modules_limit (once_part w ∷ []) contents × (get files w.vault ≡ Some vault)
-      × Q (launched profile (once_part w ∷ []) contents vault (ran w.sealed (once_moves w)))
+  pub once_goes : (files : Files) (profile : Profile) (w : OnceWords) → Q (once_answer files profile w) → OnceComes Q files profile w
   once_goes files profile w q =
       let last = λ (contents : List (List ℕ)) (vault : List ℕ). launched profile (once_part w ∷ []) contents vault (ran w.sealed (once_moves w)) in
       let opened = λ (contents : List (List ℕ)). on_file w.vault vault_limit (get files w.vault) (last contents) in
       let u = unless_goes (same_in_once w) (load_modules files modules_limit (once_part w ∷ []) opened) q in
       let c = load_goes files modules_limit (once_part w ∷ []) opened u.1 in
       let v = file_goes w.vault vault_limit (get files w.vault) (last c.0) c.2 in
-      (c.0, v.0, c.1, v.1, v.3)
+      record { alone = u.0; bytes = v.0; vault = v.1; vault_short = v.2; contents = c.0; held = c.1; launches = v.3 }

@@ -1,5 +1,5 @@
--- The answer over files that hold what the words ask for, and what the files hold where the answer is no refusal.
-use Rattle.std.proofs.Common.{◌≡◌, ◌≤◌, ◌-◌, ◌≢◌, ℕ, Bool, true, false, List, [], ◌∷◌, length, Option, Some, None, Result, Ok, refl, sym, ap, ◌∙◌, nat_le, cond, subst, codes}
+-- The answer over files that hold what the words ask for, and what the files hold where the work is done.
+use Rattle.std.proofs.Common.{◌≡◌, ◌≤◌, ◌-◌, ◌≢◌, ℕ, Bool, true, false, List, [], ◌∷◌, length, Option, Some, None, Result, Ok, refl, sym, ap, ◌∙◌, nat_le, cond, subst, arith, codes}
 use Rattle.std.proofs.lemmas.Bool.{le-leb}
 use Rattle.std.specs.Str.{is_utf8}
 use Rattle.std.specs.Str.Lossy.{utf8_valid_len}
@@ -8,36 +8,43 @@ use Rattle.std.specs.FinMap.{get}
 use Rattle.ctw_io.specs.Files.{Files}
 use Rattle.ctw_ops.specs.declared.types.Label.{Label}
 use Rattle.ctw_ops.specs.declared.numeric.Profile.{Profile}
-use Rattle.ctw_ops.specs.declared.numeric.Profile.TheVariants.{Divide, Multiply}
 use Rattle.ctw_ops.specs.Tree.{Module, under}
 use Rattle.ctw_ops.specs.Valid.{IsValid}
+use Rattle.ctw_ops.specs.Erasure.{erase_module}
 use Rattle.ctw_form.specs.declared.fault.FormFault.{FormFault}
-use Rattle.ctw_form.specs.Spelled.{Spells}
 use Rattle.ctw_form.specs.Read.{module_at}
 use Rattle.ctw_form.proofs.FileForms.{module_sound, module_complete}
+use Rattle.ctw_form.proofs.Fitted.{module_formed}
 use Rattle.ctw_script.specs.declared.moves.Move.{Move}
 use Rattle.ctw_script.specs.declared.script.ScriptFault.{ScriptFault}
 use Rattle.ctw_write.specs.Canon.{canon}
-use Rattle.ctw_write.proofs.CanonicalText.{canonical_spelled}
+use Rattle.ctw_write.proofs.CanonicalText.{canonical_spelled, canonical_shortest}
+use Rattle.ctw_strip.proofs.Shorter.{canon_shorter}
+use Rattle.ctw_strip.proofs.Limited.{erased_spelled}
+use Rattle.ctw_text.specs.Print.{printed as text_of_module}
+use Rattle.ctw_print.proofs.ReadBack.{file_read_back}
 use Rattle.ctw_modcheck.specs.Check.{fault_of}
 use Rattle.ctw_modcheck.proofs.Validity.{valid_is_none}
 use Rattle.ctw_link.specs.declared.fault.LinkFault.{LinkFault}
 use Rattle.ctw_link.specs.Sets.{ModuleSet}
 use Rattle.ctw_link.specs.Faults.{set_fault}
 use Rattle.ctw_link.proofs.Verdict.{matching_is_no_fault}
+use Rattle.ctw_launch.proofs.ErasedFormed.{formed_erased}
 use Rattle.ctw_moves.specs.LaunchedStates.{Launch, launch}
 use Rattle.ctw_inputs.specs.declared.said.Status.{Status}
-use Rattle.ctw_inputs.specs.declared.said.Status.TheVariants.{Done, Refused}
+use Rattle.ctw_inputs.specs.declared.said.Status.TheVariants.{Done, Refused, Usage}
 use Rattle.ctw_inputs.specs.Outcome.{Outcome, ends}
-use Rattle.ctw_inputs.specs.Inputs.{NamedFile, at_most, module_limit, modules_limit, script_limit, vault_limit, refuses, on_file, load_modules, on_text, on_moves, on_form, on_set, read_parts, linked, module_under}
-use Rattle.ctwasm_top.proofs.Profiles.{under_ok, spelled_under, valid_under}
-use Rattle.ctwasm_top.proofs.Profiles.{module_read_valid}
+use Rattle.ctw_inputs.specs.Inputs.{NamedFile, at_most, module_limit, modules_limit, script_limit, vault_limit, refuses, on_file, load_modules, on_text, on_moves, on_form, on_set, read_parts, linked, module_under, read_valid}
+use Rattle.ctw_inputs.specs.Settling.{Reads}
+use Rattle.ctwasm_top.proofs.Profiles.{under_ok, spelled_under, valid_under, module_read_valid}
 use Rattle.ctwasm_top.specs.SessionWords.{OnceWords, RunWords, same_in_once, same_in_run}
-use Rattle.ctwasm_top.specs.Words.{Command, Check, Canon, Strip, Link, Run, Once, command_of}
+use Rattle.ctwasm_top.specs.Words.{Command, Check, Canon, Text, Strip, Link, Run, Once, command_of}
 use Rattle.ctwasm_top.specs.Lines.{linked_line}
-use Rattle.ctwasm_top.specs.Answer.{checked, spelled, matched, on_launch, ran, launched, unless_same, once_part, once_moves, on_words, answer}
-use Rattle.ctwasm_top.specs.ValidCalls.{HoldsValid, HoldParts, HoldsSet, HoldsSession, HoldsScript, LinksParts, check_words, canon_words, GivesSpelling}
-use Rattle.ctwasm_top.proofs.Going.{HoldBytes, file_goes, form_goes, fault_goes, load_goes, linked_goes, run_goes, once_goes}
+use Rattle.ctwasm_top.specs.Answer.{spelled, printed, stripped, matched, on_launch, ran, launched, unless_same, once_part, once_moves, on_words, answer, ReadsScript}
+use Rattle.ctwasm_top.specs.ValidCalls.{HoldsValid, HoldsModule, HoldParts, HoldsSet, HoldsSession, HoldsScript, HoldsInputs, IsSpelledAgain, IsPrinted, IsSpelledErased, WritesModule}
+use Rattle.ctwasm_top.proofs.Going.{HoldBytes, file_goes, form_goes, fault_goes, load_goes, launch_goes, linked_goes, run_goes, once_goes}
+use Rattle.ctwasm_top.proofs.Dispatched.{script_reads}
+use Rattle.ctwasm_top.proofs.Settled.{erased_under}
 
 -- no refusal is done
 abbrev is_done : Outcome → Type 0
@@ -60,48 +67,76 @@ there name limit o bytes go e h =
     ap (λ (o : Option (List ℕ)). on_file name limit o go) e
     ∙ ap (λ (b : Bool). cond b (go bytes) (refuses (codes "TooLarge") name)) (le-leb (length bytes) limit h)
 
--- ---- `check`
+-- ---- one module
 
--- `check` says ok exactly of files that hold a valid module
-check_done : (profile : Profile) (name : List ℕ) (files : Files) → (on_file name module_limit (get files name) (checked profile name)).status ≡ Done → HoldsValid files profile name
-check_done profile name files e =
-    let m = file_goes is_done refused_not_done name module_limit (get files name) (checked profile name) e in
-    let f = form_goes is_done refused_not_done name (module_under profile m.0) _ m.3 in
-    let c = fault_goes is_done refused_not_done name (fault_of f.0) _ f.2 in
-    let t = spelled_under profile m.0 f.0 f.1 in
-    record { bytes = m.0; told = m.1; short = m.2; tree = t.0; spelled = t.1; valid = subst IsValid t.2 (valid_under profile m.0 f.0 f.1 c.0) }
+module _ (profile : Profile) (name : List ℕ) (files : Files) (give : Module Label → List ℕ) where
+  -- a command over one valid module
+  abbrev gives_valid : List ℕ → Outcome
+  gives_valid bytes = read_valid profile name bytes (λ m. ends Done (give m))
 
-check_holds : (profile : Profile) (name : List ℕ) (files : Files) → HoldsValid files profile name → (on_file name module_limit (get files name) (checked profile name)).status ≡ Done
-check_holds profile name files h =
-    let m : Module Label = under profile h.tree in
-    ap (λ (a : Outcome). a.status)
-    (there name module_limit (get files name) h.bytes (checked profile name) h.told h.short
-    ∙ module_read_valid profile name h.bytes m (λ m. ends Done (codes "ok\n")) (under_ok profile h.bytes h.tree (module_complete h.bytes h.tree h.spelled)) (valid_is_none m h.valid))
+  -- the work is done exactly for a file that holds a valid module
+  valid_done : (on_file name module_limit (get files name) gives_valid).status ≡ Done → HoldsValid files profile name
+  valid_done e =
+      let m = file_goes is_done refused_not_done name module_limit (get files name) gives_valid e in
+      let f = form_goes is_done refused_not_done name (module_under profile m.0) _ m.3 in
+      let c = fault_goes is_done refused_not_done name (fault_of f.0) _ f.2 in
+      let t = spelled_under profile m.0 f.0 f.1 in
+      record { bytes = m.0; told = m.1; short = m.2; tree = t.0; spelled = t.1; valid = subst IsValid t.2 (valid_under profile m.0 f.0 f.1 c.0) }
 
-module _ (reading : Result (List Move) ScriptFault) where
-  pub checked_is_valid : (profile : Profile) (name : List ℕ) (files : Files) → (answer (check_words profile name) files reading).status ≡ Done → HoldsValid files profile name
-  unfolding answer
-  checked_is_valid Divide name files e = check_done Divide name files e
-  checked_is_valid Multiply name files e = check_done Multiply name files e
+  valid_given : (h : HoldsValid files profile name) → on_file name module_limit (get files name) gives_valid ≡ ends Done (give (under profile h.tree))
+  valid_given h =
+      let m : Module Label = under profile h.tree in
+      there name module_limit (get files name) h.bytes gives_valid h.told h.short
+      ∙ module_read_valid profile name h.bytes m (λ m. ends Done (give m)) (under_ok profile h.bytes h.tree (module_complete h.bytes h.tree h.spelled)) (valid_is_none m h.valid)
 
-  -- no file that holds one is refused
-  pub valid_is_passed : (profile : Profile) (name : List ℕ) (files : Files) → HoldsValid files profile name → (answer (check_words profile name) files reading).status ≢ Refused
-  unfolding answer
-  valid_is_passed Divide name files h r = let e : Refused ≡ Done = sym r ∙ check_holds Divide name files h in cc
-  valid_is_passed Multiply name files h r = let e : Refused ≡ Done = sym r ∙ check_holds Multiply name files h in cc
+  valid_holds : HoldsValid files profile name → (on_file name module_limit (get files name) gives_valid).status ≡ Done
+  valid_holds h = ap (λ (a : Outcome). a.status) (valid_given h)
 
--- ---- `canon`
+-- what is written of a valid module is the canonical spelling of the erased one
+strip_written : (profile : Profile) (name : List ℕ) (files : Files) → (on_file name module_limit (get files name) (stripped profile name)).status ≡ Done
+    → IsSpelledErased files name (on_file name module_limit (get files name) (stripped profile name)).out
+strip_written profile name files e =
+    let h = valid_done profile name files (λ m. canon (erase_module m)) e in
+    let out : canon (erase_module h.tree) ≡ (on_file name module_limit (get files name) (stripped profile name)).out = erased_under profile h.tree ∙ sym (ap (λ (a : Outcome). a.out) (valid_given profile name files (λ m. canon (erase_module m)) h)) in
+    let formed = formed_erased h.tree (module_formed h.bytes h.tree h.spelled) in
+    subst (IsSpelledErased files name) out
+    (record {
+      bytes = h.bytes;
+      told = h.told;
+      tree = h.tree;
+      spelled = h.spelled;
+      shorter = omega (arith, canon_shorter h.tree h.valid.around.types, canonical_shortest h.bytes h.tree h.spelled);
+      erased = λ small. erased_spelled h.bytes h.tree h.spelled h.valid.around.types formed small;
+    })
 
--- what `canon` writes spells the file's module again
-pub canon_is_spelling : (name : List ℕ) (files : Files) → (answer (canon_words name) files (Ok [])).status ≡ Done → GivesSpelling files name
-unfolding answer
-canon_is_spelling name files e =
+-- what is written of a valid module is a text that denotes it
+text_written : (profile : Profile) (name : List ℕ) (files : Files) → (on_file name module_limit (get files name) (printed profile name)).status ≡ Done
+    → IsPrinted files name (on_file name module_limit (get files name) (printed profile name)).out
+text_written profile name files e =
+    let h = valid_done profile name files (λ m. text_of_module m) e in
+    let out : text_of_module h.tree ≡ (on_file name module_limit (get files name) (printed profile name)).out = sym (ap (λ (a : Outcome). a.out) (valid_given profile name files (λ m. text_of_module m) h)) in
+    subst (IsPrinted files name) out
+    (record { bytes = h.bytes; told = h.told; tree = h.tree; spelled = h.spelled; denotes = λ octets. file_read_back profile h.bytes h.tree octets h.spelled h.valid })
+
+canon_done : (name : List ℕ) (files : Files) → (on_file name module_limit (get files name) (spelled name)).status ≡ Done → HoldsModule files name
+canon_done name files e =
     let m = file_goes is_done refused_not_done name module_limit (get files name) (spelled name) e in
     let f = form_goes is_done refused_not_done name (module_at m.0) _ m.3 in
-    let reads = module_sound m.0 f.0 f.1 in
-    let out : (answer (canon_words name) files (Ok [])).out ≡ canon f.0 =
-    ap (λ (a : Outcome). a.out) (there name module_limit (get files name) m.0 (spelled name) m.1 m.2 ∙ ap (λ (r : Result (Module Label) FormFault). on_form name r (λ m. ends Done (canon m))) f.1) in
-    record { bytes = m.0; told = m.1; tree = f.0; spelled = reads; again = subst (λ (text : List ℕ). Spells text f.0) (sym out) (canonical_spelled m.0 f.0 reads) }
+    record { bytes = m.0; told = m.1; short = m.2; tree = f.0; spelled = module_sound m.0 f.0 f.1 }
+
+canon_given : (name : List ℕ) (files : Files) (h : HoldsModule files name) → on_file name module_limit (get files name) (spelled name) ≡ ends Done (canon h.tree)
+canon_given name files h =
+    there name module_limit (get files name) h.bytes (spelled name) h.told h.short
+    ∙ ap (λ (r : Result (Module Label) FormFault). on_form name r (λ m. ends Done (canon m))) (module_complete h.bytes h.tree h.spelled)
+
+-- what is written of a module spells it again
+canon_written : (name : List ℕ) (files : Files) → (on_file name module_limit (get files name) (spelled name)).status ≡ Done
+    → IsSpelledAgain files name (on_file name module_limit (get files name) (spelled name)).out
+canon_written name files e =
+    let h = canon_done name files e in
+    let out : canon h.tree ≡ (on_file name module_limit (get files name) (spelled name)).out = sym (ap (λ (a : Outcome). a.out) (canon_given name files h)) in
+    subst (IsSpelledAgain files name) out
+    (record { bytes = h.bytes; told = h.told; tree = h.tree; spelled = h.spelled; again = canonical_spelled h.bytes h.tree h.spelled })
 
 -- ---- sets
 
@@ -194,46 +229,91 @@ run_done profile files w script same h =
     ∙ text_there w.script script.text (λ t. launched profile w.parts g.contents h.bytes (ran w.sealed script.moves)) script.is_text)
     ∙ launch_holds profile files w.parts w.vault h w.sealed script.moves (λ contents bytes. launched profile w.parts contents bytes (ran w.sealed script.moves)) (λ contents bytes. refl) g
 
+-- a set and a vault with which the moves were made
+session_done : (profile : Profile) (files : Files) (parts : List NamedFile) (contents : List (List ℕ)) (name vault sealed : List ℕ) (moves : List Move) → HoldBytes files modules_limit parts contents → get files name ≡ Some vault
+    → length vault ≤ vault_limit → (launched profile parts contents vault (ran sealed moves)).status ≡ Done → HoldsSession files profile parts name
+session_done profile files parts contents name vault sealed moves h told short e =
+    let r = linked_goes is_done refused_not_done profile files modules_limit parts contents _ h e in
+    let l = launch_goes is_done refused_not_done (launch r.0 vault) _ r.3 in
+    record { set = r.0; held = r.1; matching = r.2; bytes = vault; told = told; short = short; state = l.0; launched = l.1 }
+
 -- ---- by the words
 
 module _ (files : Files) where
   not_both : (a : Status) → a ≡ Done → a ≢ Refused
   not_both a d r = let e : Refused ≡ Done = sym r ∙ d in cc
 
-  pub session_called : (words : List (List ℕ)) (reading : Result (List Move) ScriptFault) (profile : Profile) (w : OnceWords) → command_of words ≡ Some (Once profile w) → same_in_once w ≡ None
-      → HoldsSession files profile (once_part w ∷ []) w.vault → (answer words files reading).status ≢ Refused
-  unfolding answer
-  session_called words reading profile w e same h = not_both _ (ap (λ (o : Option Command). (on_words files reading o).status) e ∙ once_done profile files w same h)
-
-  pub session_ran : (words : List (List ℕ)) (profile : Profile) (w : RunWords) (script : HoldsScript files w.script) → command_of words ≡ Some (Run profile w) → same_in_run w ≡ None
-      → HoldsSession files profile w.parts w.vault → (answer words files (Ok script.moves)).status ≢ Refused
-  unfolding answer
-  session_ran words profile w script e same h = not_both _ (ap (λ (o : Option Command). (on_words files (Ok script.moves) o).status) e ∙ run_done profile files w script same h)
-
-  pub held_is_linked : (words : List (List ℕ)) (reading : Result (List Move) ScriptFault) (profile : Profile) (parts : List NamedFile) → command_of words ≡ Some (Link profile parts) → HoldsSet files profile parts
-      → (answer words files reading).status ≢ Refused
-  unfolding answer
-  held_is_linked words reading profile parts e h = not_both _ (ap (λ (o : Option Command). (on_words files reading o).status) e ∙ link_holds profile files parts h)
-
-  set_held : (profile : Profile) (parts : List NamedFile) (contents : List (List ℕ)) (vault sealed : List ℕ) (moves : List Move) → HoldBytes files modules_limit parts contents
-      → (launched profile parts contents vault (ran sealed moves)).status ≡ Done → HoldsSet files profile parts
-  set_held profile parts contents vault sealed moves h e =
-      let r = linked_goes is_done refused_not_done profile files modules_limit parts contents _ h e in
-      record { set = r.0; held = r.1; matching = r.2 }
-
-  command_held : (reading : Result (List Move) ScriptFault) (command : Option Command) (profile : Profile) (parts : List NamedFile) → LinksParts command profile parts → (on_words files reading command).status ≡ Done → HoldsSet files profile parts
-  command_held reading None profile parts l e = absurd l
-  command_held reading (Some (Check p file)) profile parts l e = absurd l
-  command_held reading (Some (Canon file)) profile parts l e = absurd l
-  command_held reading (Some (Strip p file)) profile parts l e = absurd l
-  command_held reading (Some (Link p named)) profile parts l e = subst (λ (q : Profile). HoldsSet files q parts) l.0 (subst (λ (n : List NamedFile). HoldsSet files p n) l.1 (link_done p files named e))
-  command_held reading (Some (Run p w)) profile parts l e =
-      let r = run_goes is_done refused_not_done files p reading w e in
-      subst (λ (q : Profile). HoldsSet files q parts) l.0 (subst (λ (n : List NamedFile). HoldsSet files p n) l.1 (set_held p w.parts r.0 r.1 w.sealed r.2 r.3 r.5))
-  command_held reading (Some (Once p w)) profile parts l e =
+  command_held : (reading : Result (List Move) ScriptFault) (command : Option Command) → ReadsScript command files reading → (on_words files reading command).status ≡ Done → HoldsInputs files command
+  command_held reading None reads e = let d : Usage ≡ Done = e in absurd cc
+  command_held reading (Some (Check p name)) reads e = valid_done p name files (λ m. codes "ok\n") e
+  command_held reading (Some (Canon name)) reads e = canon_done name files e
+  command_held reading (Some (Text p name)) reads e = valid_done p name files (λ m. text_of_module m) e
+  command_held reading (Some (Strip p name)) reads e = valid_done p name files (λ m. canon (erase_module m)) e
+  command_held reading (Some (Link p parts)) reads e = link_done p files parts e
+  command_held reading (Some (Run p w)) reads e =
+      let r = run_goes is_done refused_not_done files p reading w e in (
+        r.alone,
+        record {
+          text = r.text;
+          told = r.script;
+          short = r.text_short;
+          is_text = r.is_text;
+          moves = r.moves;
+          read = subst (λ (x : Result (List Move) ScriptFault). Reads r.text x) r.read (reads r.text r.script r.text_short r.is_text);
+        },
+        session_done p files w.parts r.contents w.vault r.bytes w.sealed r.moves r.held r.vault r.vault_short r.launches,
+      )
+  command_held reading (Some (Once p w)) reads e =
       let r = once_goes is_done refused_not_done files p w e in
-      subst (λ (q : Profile). HoldsSet files q parts) l.0 (subst (λ (n : List NamedFile). HoldsSet files p n) l.1 (set_held p (once_part w ∷ []) r.0 r.1 w.sealed (once_moves w) r.2 r.4))
+      (r.alone, session_done p files (once_part w ∷ []) r.contents w.vault r.bytes w.sealed (once_moves w) r.held r.vault r.vault_short r.launches)
 
-  pub parts_are_held : (words : List (List ℕ)) (reading : Result (List Move) ScriptFault) (profile : Profile) (parts : List NamedFile) → LinksParts (command_of words) profile parts → (answer words files reading).status ≡ Done → HoldsSet files profile parts
+  -- what the files hold where the work is done
+  pub inputs_held : (words : List (List ℕ)) (reading : Result (List Move) ScriptFault) → ReadsScript (command_of words) files reading → (answer words files reading).status ≡ Done → HoldsInputs files (command_of words)
   unfolding answer
-  parts_are_held words reading profile parts l e = command_held reading (command_of words) profile parts l e
+  inputs_held words reading reads e = command_held reading (command_of words) reads e
+
+  command_written : (reading : Result (List Move) ScriptFault) (command : Option Command) → (on_words files reading command).status ≡ Done → WritesModule files command (on_words files reading command).out
+  command_written reading None e = tt
+  command_written reading (Some (Check p name)) e = tt
+  command_written reading (Some (Canon name)) e = canon_written name files e
+  command_written reading (Some (Text p name)) e = text_written p name files e
+  command_written reading (Some (Strip p name)) e = strip_written p name files e
+  command_written reading (Some (Link p parts)) e = tt
+  command_written reading (Some (Run p w)) e = tt
+  command_written reading (Some (Once p w)) e = tt
+
+  -- what the bytes spell that were written
+  pub module_written : (words : List (List ℕ)) (reading : Result (List Move) ScriptFault) → (answer words files reading).status ≡ Done → WritesModule files (command_of words) (answer words files reading).out
+  unfolding answer
+  module_written words reading e = command_written reading (command_of words) e
+
+  -- the reading of the script of files that hold one
+  abbrev pub held_reading : (command : Option Command) → HoldsInputs files command → Result (List Move) ScriptFault
+  held_reading (Some (Run p w)) h = Ok h.1.moves
+  held_reading command h = Ok []
+
+  pub held_reads : (command : Option Command) (h : HoldsInputs files command) → ReadsScript command files (held_reading command h)
+  held_reads None h = tt
+  held_reads (Some (Check p name)) h = tt
+  held_reads (Some (Canon name)) h = tt
+  held_reads (Some (Text p name)) h = tt
+  held_reads (Some (Strip p name)) h = tt
+  held_reads (Some (Link p parts)) h = tt
+  held_reads (Some (Run p w)) h = script_reads p w files h.1
+  held_reads (Some (Once p w)) h = tt
+
+  command_passed : (command : Option Command) (h : HoldsInputs files command) → (on_words files (held_reading command h) command).status ≢ Refused
+  unfolding vault_limit
+  command_passed None h = absurd h
+  command_passed (Some (Check p name)) h = not_both _ (valid_holds p name files (λ m. codes "ok\n") h)
+  command_passed (Some (Canon name)) h = not_both _ (ap (λ (a : Outcome). a.status) (canon_given name files h))
+  command_passed (Some (Text p name)) h = not_both _ (valid_holds p name files (λ m. text_of_module m) h)
+  command_passed (Some (Strip p name)) h = not_both _ (valid_holds p name files (λ m. canon (erase_module m)) h)
+  command_passed (Some (Link p parts)) h = not_both _ (link_holds p files parts h)
+  command_passed (Some (Run p w)) h = not_both _ (run_done p files w h.1 h.0 h.2)
+  command_passed (Some (Once p w)) h = not_both _ (once_done p files w h.0 h.1)
+
+  -- no files that hold what the command asks for are refused
+  pub inputs_passed : (words : List (List ℕ)) (h : HoldsInputs files (command_of words)) → (answer words files (held_reading (command_of words) h)).status ≢ Refused
+  unfolding answer
+  inputs_passed words h = command_passed (command_of words) h

@@ -8,7 +8,7 @@ pub mod Playing
 pub mod Opening
 pub mod Ending
 pub mod Going
+pub mod Dispatched
 pub mod Held
 pub mod Alike
 pub mod Stripped
-pub mod Dispatched

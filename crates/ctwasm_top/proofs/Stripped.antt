@@ -16,12 +16,13 @@ use Rattle.ctw_moves.specs.LaunchedStates.{Ready, launch}
 use Rattle.ctw_inputs.specs.Outcome.{Execution, Outcome, ends}
 use Rattle.ctw_inputs.specs.declared.said.Status.TheVariants.{Done, Refused}
 use Rattle.ctw_inputs.specs.Inputs.{NamedFile, module_limit, modules_limit}
-use Rattle.ctwasm_top.specs.Words.{Command, Check, Canon, Strip, Link, Run, Once, command_of}
+use Rattle.ctwasm_top.specs.Words.{Command, Check, Canon, Text, Strip, Link, Run, Once, command_of}
 use Rattle.ctw_ops.specs.Erasure.{erase_module}
 use Rattle.ctw_form.specs.Read.{module_at}
 use Rattle.ctw_write.specs.Canon.{canon}
 use Rattle.ctwasm_top.specs.Lines.{linked_line}
-use Rattle.ctwasm_top.specs.Answer.{checked, spelled, stripped, matched, ran, launched, once_part, once_moves, on_words, answer}
+use Rattle.ctw_text.specs.Print.{printed as text_of_module}
+use Rattle.ctwasm_top.specs.Answer.{checked, spelled, printed, stripped, matched, ran, launched, once_part, once_moves, on_words, answer}
 use Rattle.ctwasm_top.specs.ValidCalls.{HoldParts}
 use Rattle.ctwasm_top.specs.Headline.{AreOctets, RunsStripped}
 use Rattle.ctwasm_top.proofs.Going.{HoldBytes, file_goes, form_goes, valid_goes, launch_goes, load_goes, linked_goes, run_goes, once_goes}
@@ -102,6 +103,10 @@ module _ (files : Files) (octets : AreOctets files) (e : Execution) where
       let f = file_goes Executes none_refused file module_limit (get files file) (spelled file) q in
       let r = form_goes Executes none_refused file (module_at f.0) (λ (m : Module Label). ends Done (canon m)) f.3 in
       absurd (none_done (canon r.0) r.2)
+  command_comes reading (Some (Text p file)) q =
+      let f = file_goes Executes none_refused file module_limit (get files file) (printed p file) q in
+      let v = valid_goes Executes none_refused p file f.0 (λ (m : Module Label). ends Done (text_of_module m)) f.3 in
+      absurd (none_done (text_of_module v.0) v.1)
   command_comes reading (Some (Strip p file)) q =
       let f = file_goes Executes none_refused file module_limit (get files file) (stripped p file) q in
       let v = valid_goes Executes none_refused p file f.0 (λ (m : Module Label). ends Done (canon (erase_module m))) f.3 in
@@ -112,10 +117,10 @@ module _ (files : Files) (octets : AreOctets files) (e : Execution) where
       absurd (none_done (linked_line (length r.0)) r.3)
   command_comes reading (Some (Run p w)) q =
       let r = run_goes Executes none_refused files p reading w q in
-      parts_come p w.parts r.0 w.vault r.1 w.sealed r.2 r.3 r.4 r.5
+      parts_come p w.parts r.contents w.vault r.bytes w.sealed r.moves r.held r.vault r.launches
   command_comes reading (Some (Once p w)) q =
       let r = once_goes Executes none_refused files p w q in
-      parts_come p (once_part w ∷ []) r.0 w.vault r.1 w.sealed (once_moves w) r.2 r.3 r.4
+      parts_come p (once_part w ∷ []) r.contents w.vault r.bytes w.sealed (once_moves w) r.held r.vault r.launches
 
   answer_comes : (words : List (List ℕ)) (reading : Result (List Move) ScriptFault) → (answer words files reading).execution ≡ Some e → Comes e
   unfolding answer

@@ -9,6 +9,7 @@ use Rattle.ctw_script.specs.declared.moves.Move.{Move}
 use Rattle.ctw_script.specs.declared.moves.Move.TheVariants.{Begin, Turn}
 use Rattle.ctw_script.specs.declared.script.ScriptFault.{ScriptFault}
 use Rattle.ctw_write.specs.Canon.{canon}
+use Rattle.ctw_text.specs.Print.{printed as text_of_module}
 use Rattle.ctw_link.specs.Sets.{ModuleSet}
 use Rattle.ctw_io.specs.Files.{Files}
 use Rattle.ctw_moves.specs.States.{State}
@@ -21,9 +22,9 @@ use Rattle.ctw_inputs.specs.Settling.{Reads}
 use Rattle.ctwasm_top.specs.Lines.{linked_line, launch_line, told_lines}
 use Rattle.ctwasm_top.specs.Usage.{usage_text}
 use Rattle.ctwasm_top.specs.SessionWords.{OnceWords, RunWords, same_in_once, same_in_run}
-use Rattle.ctwasm_top.specs.Words.{Command, Check, Canon, Strip, Link, Run, Once, command_of}
+use Rattle.ctwasm_top.specs.Words.{Command, Check, Canon, Text, Strip, Link, Run, Once, command_of}
 
--- ---- the commands `check`, `canon`, `strip` and `link`
+-- ---- the commands `check`, `canon`, `text`, `strip` and `link`
 
 -- over the bytes of the file
 abbrev pub checked : Profile → List ℕ → List ℕ → Outcome
@@ -31,6 +32,9 @@ checked profile file bytes = read_valid profile file bytes (λ m. ends Done (cod
 
 abbrev pub spelled : List ℕ → List ℕ → Outcome
 spelled file bytes = read file bytes (λ m. ends Done (canon m))
+
+abbrev pub printed : Profile → List ℕ → List ℕ → Outcome
+printed profile file bytes = read_valid profile file bytes (λ m. ends Done (text_of_module m))
 
 abbrev pub stripped : Profile → List ℕ → List ℕ → Outcome
 stripped profile file bytes = read_valid profile file bytes (λ m. ends Done (canon (erase_module m)))
@@ -91,6 +95,7 @@ run_answer files profile reading w =
 abbrev pub command_answer : Files → Result (List Move) ScriptFault → Command → Outcome
 command_answer files reading (Check profile file) = load files file module_limit (checked profile file)
 command_answer files reading (Canon file) = load files file module_limit (spelled file)
+command_answer files reading (Text profile file) = load files file module_limit (printed profile file)
 command_answer files reading (Strip profile file) = load files file module_limit (stripped profile file)
 command_answer files reading (Link profile parts) = load_modules files modules_limit parts (matched profile parts)
 command_answer files reading (Run profile w) = run_answer files profile reading w

@@ -15,6 +15,7 @@ use Rattle.ctw_moves.specs.LaunchedStates.{Ready, launch}
 use Rattle.ctw_inputs.specs.declared.said.Status.{Status}
 use Rattle.ctw_inputs.specs.declared.said.Status.TheVariants.{Done, Refused, Usage, NoLabelling, ReadFault, WriteFault, NoMemory, SaveFault}
 use Rattle.ctw_inputs.specs.Outcome.{Execution, Outcome}
+use Rattle.ctwasm_top.specs.Words.{Command, LoadsFiles}
 
 -- the files after saves, one after another
 abbrev pub with_saves : Files → List (List ℕ × List ℕ) → Files
@@ -44,10 +45,12 @@ pub record DidTold (status : Status) (a : Outcome) (before : Files) (after : Opt
   pub told : after ≡ Some files
   pub did : Did status a before files taken took
 
--- each fault has its cause, from counts of the shelf's and the sink's faults: before and after
-pub record HasCauses (status : Status) (shelf shelf_after out out_after : ℕ) (taken took : Option (List ℕ))
-    : Type 0 where
-  pub read : status ≡ ReadFault → Rose shelf shelf_after × (took ≡ taken)
+-- Wrong words alone are a wrong use, and each fault has its cause, from counts of the shelf's and the sink's faults
+-- before and after. No file is read for words that load none.
+pub record HasCauses (command : Option Command) (status : Status) (shelf shelf_after out out_after : ℕ)
+    (taken took : Option (List ℕ)) : Type 0 where
+  pub usage : status ≡ Usage → command ≡ None
+  pub read : status ≡ ReadFault → LoadsFiles command × Rose shelf shelf_after × (took ≡ taken)
   pub write : status ≡ WriteFault → Rose out out_after
   pub save : status ≡ SaveFault → Rose shelf shelf_after
 

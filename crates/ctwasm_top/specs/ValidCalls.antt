@@ -1,14 +1,17 @@
 -- What the commands say of modules, in terms of what bytes spell and which modules are valid.
-use Rattle.std.specs.Prelude.{◌≡◌, ◌≤◌, ◌-◌, ℕ, true, List, [], ◌∷◌, length, Option, Some, Ok, codes}
+use Rattle.std.specs.Prelude.{◌≡◌, ◌≤◌, ◌-◌, ℕ, true, List, [], ◌∷◌, length, Option, Some, None, Ok, All}
 use Rattle.std.specs.Str.{is_utf8}
 use Rattle.std.specs.FinMap.{get}
 use Rattle.ctw_io.specs.Files.{Files}
 use Rattle.ctw_ops.specs.declared.types.Label.{Label}
 use Rattle.ctw_ops.specs.declared.numeric.Profile.{Profile}
-use Rattle.ctw_ops.specs.declared.numeric.Profile.TheVariants.{Divide, Multiply}
 use Rattle.ctw_ops.specs.Tree.{Module, under}
 use Rattle.ctw_ops.specs.Valid.{IsValid}
+use Rattle.ctw_ops.specs.Limits.{most_plain_bytes}
+use Rattle.ctw_ops.specs.Erasure.{erase_module}
+use Rattle.ctw_ops.specs.WithinLimits.{IsOctet}
 use Rattle.ctw_form.specs.Spelled.{Spells}
+use Rattle.ctw_text.specs.Denotes.{assembled}
 use Rattle.ctw_link.specs.Sets.{ModuleSet}
 use Rattle.ctw_link.specs.Matching.{AreMatching}
 use Rattle.ctw_script.specs.declared.moves.Move.{Move}
@@ -16,8 +19,9 @@ use Rattle.ctw_moves.specs.States.{State}
 use Rattle.ctw_moves.specs.LaunchedStates.{Ready, launch}
 use Rattle.ctw_inputs.specs.Inputs.{NamedFile, module_limit, modules_limit, script_limit, vault_limit}
 use Rattle.ctw_inputs.specs.Settling.{Reads}
-use Rattle.ctwasm_top.specs.Words.{Command, Link, Run, Once}
-use Rattle.ctwasm_top.specs.Answer.{answer, once_part}
+use Rattle.ctwasm_top.specs.SessionWords.{same_in_once, same_in_run}
+use Rattle.ctwasm_top.specs.Words.{Command, Check, Canon, Text, Strip, Link, Run, Once}
+use Rattle.ctwasm_top.specs.Answer.{once_part}
 
 -- the file is there, within its limit, and its bytes spell a module that is valid under the profile
 pub record HoldsValid (files : Files) (profile : Profile) (name : List ℕ) : Type 0 where
@@ -28,24 +32,13 @@ pub record HoldsValid (files : Files) (profile : Profile) (name : List ℕ) : Ty
   pub spelled : Spells bytes tree
   pub valid : IsValid (under profile tree)
 
--- the words of a command under a profile
-abbrev pub profiled_words : Profile → List (List ℕ) → List (List ℕ)
-profiled_words Divide words = words
-profiled_words Multiply words = codes "mul" ∷ words
-
-abbrev pub check_words : Profile → List ℕ → List (List ℕ)
-check_words profile name = profiled_words profile (codes "check" ∷ name ∷ [])
-
-abbrev pub canon_words : List ℕ → List (List ℕ)
-canon_words name = codes "canon" ∷ name ∷ []
-
--- what is written for a file whose bytes spell a module: other bytes, or the same, that spell that module
-pub record GivesSpelling (files : Files) (name : List ℕ) : Type 0 where
+-- the file is there, within its limit, and its bytes spell a module
+pub record HoldsModule (files : Files) (name : List ℕ) : Type 0 where
   pub bytes : List ℕ
   pub told : get files name ≡ Some bytes
+  pub short : length bytes ≤ module_limit
   pub tree : Module Label
   pub spelled : Spells bytes tree
-  pub again : Spells (answer (canon_words name) files (Ok [])).out tree
 
 -- ---- sets
 
@@ -65,13 +58,6 @@ pub record HoldsSet (files : Files) (profile : Profile) (parts : List NamedFile)
   pub set : ModuleSet
   pub held : HoldParts files profile modules_limit parts set
   pub matching : AreMatching set
-
--- the parts that a command links, and their profile
-abbrev pub LinksParts : Option Command → Profile → List NamedFile → Type 0
-LinksParts (Some (Link profile parts)) p named = (profile ≡ p) × (parts ≡ named)
-LinksParts (Some (Run profile w)) p named = (profile ≡ p) × (w.parts ≡ named)
-LinksParts (Some (Once profile w)) p named = (profile ≡ p) × (once_part w ∷ [] ≡ named)
-LinksParts command p named = ⊥
 
 -- ---- sessions
 
@@ -94,3 +80,53 @@ pub record HoldsScript (files : Files) (script : List ℕ) : Type 0 where
   pub is_text : is_utf8 text ≡ true
   pub moves : List Move
   pub read : Reads text (Ok moves)
+
+-- ---- by the command
+
+-- what the files hold where the command's work can be done, and only there
+abbrev pub HoldsInputs : Files → Option Command → Type 0
+HoldsInputs files None = ⊥
+HoldsInputs files (Some (Check profile name)) = HoldsValid files profile name
+HoldsInputs files (Some (Canon name)) = HoldsModule files name
+HoldsInputs files (Some (Text profile name)) = HoldsValid files profile name
+HoldsInputs files (Some (Strip profile name)) = HoldsValid files profile name
+HoldsInputs files (Some (Link profile parts)) = HoldsSet files profile parts
+HoldsInputs files (Some (Run profile w)) =
+    (same_in_run w ≡ None) × HoldsScript files w.script × HoldsSession files profile w.parts w.vault
+HoldsInputs files (Some (Once profile w)) =
+    (same_in_once w ≡ None) × HoldsSession files profile (once_part w ∷ []) w.vault
+
+-- ---- the modules that are written
+
+-- what is written for a file whose bytes spell a module: other bytes, or the same, that spell that module
+pub record IsSpelledAgain (files : Files) (name out : List ℕ) : Type 0 where
+  pub bytes : List ℕ
+  pub told : get files name ≡ Some bytes
+  pub tree : Module Label
+  pub spelled : Spells bytes tree
+  pub again : Spells out tree
+
+-- what is written for a file whose bytes spell a module: a text that denotes that module
+pub record IsPrinted (files : Files) (name out : List ℕ) : Type 0 where
+  pub bytes : List ℕ
+  pub told : get files name ≡ Some bytes
+  pub tree : Module Label
+  pub spelled : Spells bytes tree
+  pub denotes : All IsOctet bytes → assembled out ≡ Ok tree
+
+-- What is written for a file whose bytes spell a module: no more bytes, which spell the erased module, if they aren't
+-- longer than a plain module's file may be.
+pub record IsSpelledErased (files : Files) (name out : List ℕ) : Type 0 where
+  pub bytes : List ℕ
+  pub told : get files name ≡ Some bytes
+  pub tree : Module Label
+  pub spelled : Spells bytes tree
+  pub shorter : length out ≤ length bytes
+  pub erased : length out ≤ most_plain_bytes → Spells out (erase_module tree)
+
+-- what module it is whose bytes or text the command writes
+abbrev pub WritesModule : Files → Option Command → List ℕ → Type 0
+WritesModule files (Some (Canon name)) out = IsSpelledAgain files name out
+WritesModule files (Some (Text profile name)) out = IsPrinted files name out
+WritesModule files (Some (Strip profile name)) out = IsSpelledErased files name out
+WritesModule files command out = Unit {0}

@@ -1,16 +1,17 @@
 -- The words of the command line.
-use Rattle.std.specs.Prelude.{ℕ, List, [], ◌∷◌, Option, Some, None, option_map, if◌then◌else◌, codes}
+use Rattle.std.specs.Prelude.{◌≡◌, ℕ, List, [], ◌∷◌, Option, Some, None, option_map, if◌then◌else◌, codes}
 use Rattle.std.specs.Str.{bytes_eq}
 use Rattle.ctw_ops.specs.declared.numeric.Profile.{Profile}
 use Rattle.ctw_ops.specs.declared.numeric.Profile.TheVariants.{Divide, Multiply}
 use Rattle.ctw_inputs.specs.Inputs.{NamedFile}
-use Rattle.ctwasm_top.specs.SessionWords.{OnceWords, RunWords, once_words, run_words, part_words}
+use Rattle.ctwasm_top.specs.SessionWords.{OnceWords, RunWords, once_words, run_words, part_words, same_in_once, same_in_run}
 
--- The commands with their files: `check M`, `canon M`, `strip M`, `link NAME=M..`, `run SCRIPT VAULT SEALED NAME=M..`
--- and `once M VAULT SEALED EXPORT ARG..`, and the profile of their modules.
+-- The commands with their files: `check M`, `canon M`, `text M`, `strip M`, `link NAME=M..`,
+-- `run SCRIPT VAULT SEALED NAME=M..` and `once M VAULT SEALED EXPORT ARG..`, and the profile of their modules.
 pub data Command : Type 0 where
   Check : (profile : Profile) (module_file : List ℕ) → Command
   Canon : (module_file : List ℕ) → Command
+  Text : (profile : Profile) (module_file : List ℕ) → Command
   Strip : (profile : Profile) (module_file : List ℕ) → Command
   Link : (profile : Profile) (parts : List NamedFile) → Command
   Run : (profile : Profile) (words : RunWords) → Command
@@ -34,9 +35,10 @@ or_command None other = other
 abbrev pub profiled_command : Profile → List (List ℕ) → Option Command
 profiled_command profile words =
     or_command (option_map (Check profile) (file_words (codes "check") words))
+    (or_command (option_map (Text profile) (file_words (codes "text") words))
     (or_command (option_map (Strip profile) (file_words (codes "strip") words))
     (or_command (option_map (Link profile) (link_words words))
-    (or_command (option_map (Run profile) (run_words words)) (option_map (Once profile) (once_words words)))))
+    (or_command (option_map (Run profile) (run_words words)) (option_map (Once profile) (once_words words))))))
 
 -- such a command behind the word `mul`
 abbrev pub mul_command : List (List ℕ) → Option Command
@@ -57,3 +59,15 @@ vault_in _ = None
 
 abbrev pub vault_word : List (List ℕ) → Option (List ℕ)
 vault_word words = vault_in (command_of words)
+
+-- The command's files are loaded: wrong words name none, and where VAULT or SEALED is the word of another file too, the
+-- command ends before its first load.
+abbrev pub LoadsFiles : Option Command → Type 0
+LoadsFiles None = ⊥
+LoadsFiles (Some (Run profile w)) = same_in_run w ≡ None
+LoadsFiles (Some (Once profile w)) = same_in_once w ≡ None
+LoadsFiles (Some (Check profile file)) = Unit {0}
+LoadsFiles (Some (Canon file)) = Unit {0}
+LoadsFiles (Some (Text profile file)) = Unit {0}
+LoadsFiles (Some (Strip profile file)) = Unit {0}
+LoadsFiles (Some (Link profile parts)) = Unit {0}

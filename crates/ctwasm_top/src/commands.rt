@@ -6,7 +6,7 @@ ghost use Rattle.ctw_inputs.specs.Inputs.{module_limit, modules_limit, load, loa
 ghost use Rattle.ctw_inputs.specs.Parts.{names, contents, bytes_in};
 ghost use Rattle.ctw_inputs.specs.Settling.{SaysSo, HasReadCause};
 ghost use Rattle.ctwasm_top.specs.Lines.{linked_line};
-ghost use Rattle.ctwasm_top.specs.Answer.{checked, spelled, stripped, matched};
+ghost use Rattle.ctwasm_top.specs.Answer.{checked, spelled, printed, stripped, matched};
 
 use crate::lines::linked_line;
 use crate::words::PartWords;
@@ -16,6 +16,7 @@ use ctw_inputs::{
 };
 use ctw_io::Shelf;
 use ctw_ops::Profile;
+use ctw_print::print;
 use ctw_strip::strip;
 use ctw_write::canon;
 use std::alloc::Global;
@@ -38,6 +39,17 @@ fn spelled(alloc: Global, file: &str, bytes: &[u8]) -> Result<Said, Stop>
 {
     let module = read_module(alloc, file, bytes)?;
     Ok(Said::done(canon(alloc, &module)?))
+}
+
+/// The text of the module that a file's bytes spell, which has to be valid under a profile.
+fn printed(alloc: Global, profile: Profile, file: &str, bytes: &[u8]) -> Result<Said, Stop>
+    requires { length bytes.now < 2 ^ 32 }
+    ensures told { SaysSo result (printed profile file.now bytes.now) }
+    ensures quiet { result ≢ Err ReadFault }
+{
+    let module = read_valid(alloc, profile, file, bytes)?;
+    let text = print(alloc, &module)?;
+    Ok(Said::done(text.into_bytes()))
 }
 
 /// The canonical bytes of the erased module, where a file's bytes spell a module that is valid under a profile.
@@ -89,6 +101,23 @@ pub fn canon_file<F: Shelf>(alloc: Global, file: &str, shelf: &mut F) -> Result<
 {
     let bytes = load_file(alloc, shelf, file, MODULE_LIMIT)?;
     spelled(alloc, file, &bytes)
+}
+
+/// `text M`: says the text of the file's module, which has to be valid under a profile.
+#[tactic(auto, unfolding(ctw_inputs::specs::Inputs::module_limit))]
+pub fn text_file<F: Shelf>(
+    alloc: Global,
+    profile: Profile,
+    file: &str,
+    shelf: &mut F,
+) -> Result<Said, Stop>
+    ensures told { (files : Files) → F.files shelf.old ≡ Some files
+        → SaysSo result (load files file.now module_limit (printed profile file.now)) }
+    ensures unchanged { F.files shelf.new ≡ F.files shelf.old }
+    ensures cause { HasReadCause (F.faults shelf.old) (F.faults shelf.new) result }
+{
+    let bytes = load_file(alloc, shelf, file, MODULE_LIMIT)?;
+    printed(alloc, profile, file, &bytes)
 }
 
 /// `strip M`: says the canonical bytes of the erased module of the file's, which has to be valid under a profile.

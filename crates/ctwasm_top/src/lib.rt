@@ -8,9 +8,8 @@ mod saying;
 mod sessions;
 mod words;
 
-ghost use Rattle.std.specs.Prelude.{◌≡◌, ◌≢◌, ◌∷◌, [], List, Result, ℕ, map, string_bytes, Some, None, All};
+ghost use Rattle.std.specs.Prelude.{◌≡◌, ◌≢◌, [], List, Result, ℕ, map, string_bytes, Some, None, All};
 ghost use Rattle.ctw_io.specs.Files.{Files};
-ghost use Rattle.ctw_ops.specs.declared.numeric.Profile.{Profile};
 ghost use Rattle.ctw_script.specs.declared.moves.Move.{Move};
 ghost use Rattle.ctw_script.specs.declared.script.ScriptFault.{ScriptFault};
 ghost use Rattle.ctw_semantics.specs.Sound.{AllUntrusted};
@@ -21,16 +20,14 @@ ghost use Rattle.ctw_moves.specs.Runs.{plays};
 ghost use Rattle.ctw_moves.specs.SoundStates.{HasBytes};
 ghost use Rattle.ctw_moves.specs.SeenStates.{Agree, seen_run};
 ghost use Rattle.ctw_inputs.specs.declared.said.Status.TheVariants.{Done, Refused, Usage};
-ghost use Rattle.ctw_inputs.specs.Inputs.{NamedFile};
 ghost use Rattle.ctw_inputs.specs.Outcome.{Execution, ends};
 ghost use Rattle.ctwasm_top.specs.Usage.{usage_text};
-ghost use Rattle.ctwasm_top.specs.SessionWords.{RunWords, OnceWords, same_in_run, same_in_once};
-ghost use Rattle.ctwasm_top.specs.Words.{Link, Run, Once, command_of, vault_word};
-ghost use Rattle.ctwasm_top.specs.Answer.{once_part, answer, releases, ReadsScript};
+ghost use Rattle.ctwasm_top.specs.Words.{command_of, vault_word};
+ghost use Rattle.ctwasm_top.specs.Answer.{answer, releases, ReadsScript};
 ghost use Rattle.ctwasm_top.specs.Headline.{Did, DidTold, HasCauses, AreOctets, OtherVault, SameOutcome, RunsStripped};
-ghost use Rattle.ctwasm_top.specs.ValidCalls.{HoldsValid, HoldsSet, HoldsScript, HoldsSession, LinksParts, check_words, canon_words, GivesSpelling};
+ghost use Rattle.ctwasm_top.specs.ValidCalls.{HoldsInputs, WritesModule};
 
-use commands::{canon_file, check_file, link_files, strip_file};
+use commands::{canon_file, check_file, link_files, strip_file, text_file};
 pub use ctw_inputs::Status;
 use ctw_io::{Shelf, Sink};
 use running::{once, run};
@@ -65,9 +62,8 @@ fn dispatch<F: Shelf, K: Sink>(
         (K.taken out.new) }
     ensures read { (files : Files) → F.files shelf.old ≡ Some files → result ≡ Done
         → (reading : Result (List Move) ScriptFault) × ReadsScript (command_of (map string_bytes words.now)) files reading }
-    ensures causes { HasCauses result (F.faults shelf.old) (F.faults shelf.new) (K.faults out.old) (K.faults out.new)
-        (K.taken out.old) (K.taken out.new) }
-    ensures usage { result ≡ Usage → command_of (map string_bytes words.now) ≡ None }
+    ensures causes { HasCauses (command_of (map string_bytes words.now)) result (F.faults shelf.old) (F.faults shelf.new)
+        (K.faults out.old) (K.faults out.new) (K.taken out.old) (K.taken out.new) }
     ensures no_form { (files : Files) → command_of (map string_bytes words.now) ≡ None
         → Did result (ends Usage usage_text) files files (K.taken out.old) (K.taken out.new) }
 {
@@ -77,6 +73,9 @@ fn dispatch<F: Shelf, K: Sink>(
             settle(out, check_file(alloc, profile, file, shelf))
         }
         Some(Command::Canon(file)) => settle(out, canon_file(alloc, file, shelf)),
+        Some(Command::Text(profile, file)) => {
+            settle(out, text_file(alloc, profile, file, shelf))
+        }
         Some(Command::Strip(profile, file)) => {
             settle(out, strip_file(alloc, profile, file, shelf))
         }
@@ -90,7 +89,7 @@ fn dispatch<F: Shelf, K: Sink>(
 
 /// Does what the words after the program's name say, over these files and this place for text.
 ///
-/// For now it has the commands `check M`, `canon M`, `strip M`, `link NAME=M..`, `run SCRIPT VAULT SEALED NAME=M..` and
+/// For now it has the commands `check M`, `canon M`, `text M`, `strip M`, `link NAME=M..`, `run SCRIPT VAULT SEALED NAME=M..` and
 /// `once M VAULT SEALED EXPORT ARG..`. Before all but `canon` the word `mul` may stand, under which multiplications leak
 /// as divisions do. All other words are a wrong use, whose text is written. The text of each move is written before the
 /// next is made, every text before a file is saved, and files are saved in the last place.
@@ -109,32 +108,20 @@ pub fn ctwasm<F: Shelf, K: Sink>(
     ensures read { (files : Files) → F.files shelf.old ≡ Some files → result ≡ Done
         → (reading : Result (List Move) ScriptFault) × ReadsScript (command_of (map string_bytes words.now)) files reading }
 
-    // `check` ends well only for a file whose bytes spell a module that is valid under the words' profile, and refuses
-    // no such file.
-    ensures checked { (files : Files) (profile : Profile) (name : List ℕ) → F.files shelf.old ≡ Some files
-        → map string_bytes words.now ≡ check_words profile name → result ≡ Done → HoldsValid files profile name }
-    ensures passed { (files : Files) (profile : Profile) (name : List ℕ) → F.files shelf.old ≡ Some files
-        → map string_bytes words.now ≡ check_words profile name → HoldsValid files profile name → result ≢ Refused }
+    // The work is done only for files that hold what the command asks for, and no such files are refused: a module that
+    // bytes spell, a valid one under the words' profile, such modules that match, and for `run` and `once` such a set that
+    // is launched with the vault, and a script that stands for moves.
+    ensures held { (files : Files) → F.files shelf.old ≡ Some files → result ≡ Done
+        → HoldsInputs files (command_of (map string_bytes words.now)) }
+    ensures complete { (files : Files) → F.files shelf.old ≡ Some files
+        → HoldsInputs files (command_of (map string_bytes words.now)) → result ≢ Refused }
 
-    // `canon` writes bytes that spell the file's module.
-    ensures spelled { (files : Files) (name : List ℕ) → F.files shelf.old ≡ Some files
-        → map string_bytes words.now ≡ canon_words name → result ≡ Done → GivesSpelling files name }
-
-    // `link`, `run` and `once` end well only for files that hold modules that are valid under the words' profile and
-    // match, and `link` refuses no such files.
-    ensures linked { (files : Files) (profile : Profile) (parts : List NamedFile) → F.files shelf.old ≡ Some files
-        → LinksParts (command_of (map string_bytes words.now)) profile parts → result ≡ Done → HoldsSet files profile parts }
-    ensures matched { (files : Files) (profile : Profile) (parts : List NamedFile) → F.files shelf.old ≡ Some files
-        → command_of (map string_bytes words.now) ≡ Some (Link profile parts) → HoldsSet files profile parts
-        → result ≢ Refused }
-
-    // `run` and `once` refuse no files that hold a set that is launched, and the script.
-    ensures ran { (files : Files) (profile : Profile) (w : RunWords) → F.files shelf.old ≡ Some files
-        → command_of (map string_bytes words.now) ≡ Some (Run profile w) → same_in_run w ≡ None
-        → HoldsScript files w.script → HoldsSession files profile w.parts w.vault → result ≢ Refused }
-    ensures called { (files : Files) (profile : Profile) (w : OnceWords) → F.files shelf.old ≡ Some files
-        → command_of (map string_bytes words.now) ≡ Some (Once profile w) → same_in_once w ≡ None
-        → HoldsSession files profile (once_part w ∷ []) w.vault → result ≢ Refused }
+    // `canon` writes bytes that spell the file's module, `text` a text that denotes it, and `strip` bytes that spell the
+    // erased module, if they aren't longer than a plain module's file may be.
+    ensures written { (files : Files) (reading : Result (List Move) ScriptFault) → F.files shelf.old ≡ Some files
+        → ReadsScript (command_of (map string_bytes words.now)) files reading → result ≡ Done
+        → WritesModule files (command_of (map string_bytes words.now))
+        (answer (map string_bytes words.now) files reading).out }
 
     // The two vaults: other bytes in VAULT, as many, by which the same is released, give the same bytes for out, the
     // same status and as many bytes to save.
@@ -156,14 +143,14 @@ pub fn ctwasm<F: Shelf, K: Sink>(
         → (answer (map string_bytes words.now) files reading).execution ≡ Some e → All HasBytes e.moves
         → RunsStripped e }
 
-    // Told or not: wrong words are a wrong use, and nothing else is.
-    ensures usage { result ≡ Usage → command_of (map string_bytes words.now) ≡ None }
+    // Told or not: wrong words are a wrong use, which reads no file.
     ensures no_form { (files : Files) → command_of (map string_bytes words.now) ≡ None
         → Did result (ends Usage usage_text) files files (K.taken out.old) (K.taken out.new) }
 
-    // Told or not: each fault has its cause.
-    ensures causes { HasCauses result (F.faults shelf.old) (F.faults shelf.new) (K.faults out.old) (K.faults out.new)
-        (K.taken out.old) (K.taken out.new) }
+    // Told or not: no other words are one, and each fault has its cause. Words that load no file, as those in which VAULT
+    // or SEALED names another file of theirs, meet no fault of reading.
+    ensures causes { HasCauses (command_of (map string_bytes words.now)) result (F.faults shelf.old) (F.faults shelf.new)
+        (K.faults out.old) (K.faults out.new) (K.taken out.old) (K.taken out.new) }
 {
     dispatch(alloc, words, shelf, out)
 }

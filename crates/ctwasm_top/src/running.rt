@@ -16,7 +16,8 @@ ghost use Rattle.ctw_inputs.specs.Settling.{IsRefusal, Settles, HasReadCause, Re
 ghost use Rattle.ctwasm_top.specs.Answer.{once_part, once_moves, once_answer, run_answer, ReadsScript};
 ghost use Rattle.ctwasm_top.specs.Headline.{DidTold, HasCauses};
 ghost use Rattle.ctwasm_top.specs.Sessions.{ArePartsOf, OpensRun, run_files, run_opened, once_files, IsSaved, Writes};
-ghost use Rattle.ctwasm_top.specs.Words.{Run as Runs};
+ghost use Rattle.ctwasm_top.specs.SessionWords.{same_in_run, same_in_once};
+ghost use Rattle.ctwasm_top.specs.Words.{Run as Runs, Once as Calls};
 
 use crate::saying::settle;
 use crate::sessions::{open_session, play_script, play_two};
@@ -54,6 +55,7 @@ fn load_run<'a, F: Shelf>(
     ensures short { IfOk result (λ f. length f.script.items ≤ 1048576) }
     ensures unchanged { F.files shelf.new ≡ F.files shelf.old }
     ensures cause { HasReadCause (F.faults shelf.old) (F.faults shelf.new) result }
+    ensures loads { result ≡ Err stop.ReadFault → same_in_run words.now ≡ None }
 {
     if let Some(word) = words.same_file() {
         return Err(refuse(refusal_line(alloc, "SameFile", word)));
@@ -138,9 +140,8 @@ pub fn run<F: Shelf, K: Sink>(
         (K.taken out.new) }
     ensures read { (files : Files) → F.files shelf.old ≡ Some files → result ≡ Done
         → (moves : List AMove) × ReadsScript (Some (Runs profile words.now)) files (Ok moves) }
-    ensures causes { HasCauses result (F.faults shelf.old) (F.faults shelf.new) (K.faults out.old) (K.faults out.new)
-        (K.taken out.old) (K.taken out.new) }
-    ensures usage { result ≢ Usage }
+    ensures causes { HasCauses (Some (Runs profile words.now)) result (F.faults shelf.old) (F.faults shelf.new)
+        (K.faults out.old) (K.faults out.new) (K.taken out.old) (K.taken out.new) }
 {
     let files = match load_run(alloc, words, shelf) {
         Ok(files) => files,
@@ -178,6 +179,7 @@ fn load_once<'a, F: Shelf>(
     ensures parts { IfOk result (λ f. ArePartsOf f.parts.items (once_part words.now ∷ [])) }
     ensures unchanged { F.files shelf.new ≡ F.files shelf.old }
     ensures cause { HasReadCause (F.faults shelf.old) (F.faults shelf.new) result }
+    ensures loads { result ≡ Err stop.ReadFault → same_in_once words.now ≡ None }
 {
     if let Some(word) = words.same_file() {
         return Err(refuse(refusal_line(alloc, "SameFile", word)));
@@ -231,9 +233,8 @@ pub fn once<F: Shelf, K: Sink>(
     ensures did { (files : Files) → F.files shelf.old ≡ Some files
         → DidTold result (once_answer files profile words.now) files (F.files shelf.new) (K.taken out.old)
         (K.taken out.new) }
-    ensures causes { HasCauses result (F.faults shelf.old) (F.faults shelf.new) (K.faults out.old) (K.faults out.new)
-        (K.taken out.old) (K.taken out.new) }
-    ensures usage { result ≢ Usage }
+    ensures causes { HasCauses (Some (Calls profile words.now)) result (F.faults shelf.old) (F.faults shelf.new)
+        (K.faults out.old) (K.faults out.new) (K.taken out.old) (K.taken out.new) }
 {
     let files = match load_once(alloc, words, shelf) {
         Ok(files) => files,

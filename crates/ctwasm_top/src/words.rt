@@ -312,6 +312,8 @@ pub enum Command<'a> {
     Check(Profile, &'a str),
     /// `canon M`.
     Canon(&'a str),
+    /// `text M`, under a profile.
+    Text(Profile, &'a str),
     /// `strip M`, under a profile.
     Strip(Profile, &'a str),
     /// `link NAME=M..`, under a profile.
@@ -341,6 +343,9 @@ fn profiled_command(profile: Profile, words: &[String]) -> Option<Command<'_>>
 {
     if let Some(file) = file_word("check", words) {
         return Some(Command::Check(profile, file));
+    }
+    if let Some(file) = file_word("text", words) {
+        return Some(Command::Text(profile, file));
     }
     if let Some(file) = file_word("strip", words) {
         return Some(Command::Strip(profile, file));

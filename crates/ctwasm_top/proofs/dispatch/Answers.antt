@@ -2,7 +2,7 @@ use Rattle.std.proofs.Common.{[], Some, Ok, map, string_bytes, sym, ap, ◌∙�
 use Rattle.ctwasm_top.specs.declared.words.Command.{Command}
 use Rattle.ctwasm_top.specs.Usage.{usage_text}
 use Rattle.ctwasm_top.specs.Commands.{command_in}
-use Rattle.ctwasm_top.proofs.Dispatched.{on_command, reads_command, command_reads, says_command, settled_causes, written_causes}
+use Rattle.ctwasm_top.proofs.Dispatched.{on_command, reads_command, command_reads, command_causes, says_command, settled_causes, written_causes}
 use Rattle.ctwasm_top.proofs.dispatch.Goals as goal
 
 -- ---- wrong words
@@ -15,7 +15,7 @@ pub returns-in-None-clause-read : goal.returns-in-None-clause-read
 returns-in-None-clause-read g c = λ files told done. (Ok [], command_reads (map string_bytes c.args.words.now) files _ (sym c.in-None.ensures) (Ok []) tt)
 
 pub returns-in-None-clause-causes : goal.returns-in-None-clause-causes
-returns-in-None-clause-causes g c = written_causes c.say.result _ _ _ _ _ c.say.ensures.write c.say.ensures.quiet
+returns-in-None-clause-causes g c = command_causes (map string_bytes c.args.words.now) _ (sym c.in-None.ensures) c.say.result _ _ _ _ _ _ (written_causes c.say.result _ _ _ _ _ c.say.ensures.write c.say.ensures.quiet)
 
 pub returns-in-None-clause-no_form : goal.returns-in-None-clause-no_form
 unfolding usage_text
@@ -31,7 +31,9 @@ pub returns-in-Some-Check-clause-read : goal.returns-in-Some-Check-clause-read
 returns-in-Some-Check-clause-read g c = λ files told done. (Ok [], command_reads (map string_bytes c.args.words.now) files _ (sym c.in-Some-Check.ensures ∙ ap (λ (k : Command). Some (command_in k)) c.in-Some-Check.field-0-is) (Ok []) tt)
 
 pub returns-in-Some-Check-clause-causes : goal.returns-in-Some-Check-clause-causes
-returns-in-Some-Check-clause-causes g c = settled_causes c.settle.result c.check_file.result _ _ _ _ _ _ c.check_file.ensures.cause c.settle.ensures.read c.settle.ensures.write c.settle.ensures.quiet.0
+returns-in-Some-Check-clause-causes g c =
+    command_causes (map string_bytes c.args.words.now) _ (sym c.in-Some-Check.ensures ∙ ap (λ (k : Command). Some (command_in k)) c.in-Some-Check.field-0-is) c.settle.result _ _ _ _ _ _
+    (settled_causes _ c.settle.result c.check_file.result _ _ _ _ _ _ tt c.check_file.ensures.cause c.settle.ensures.read c.settle.ensures.write c.settle.ensures.quiet)
 
 pub returns-in-Some-Canon-clause-did : goal.returns-in-Some-Canon-clause-did
 returns-in-Some-Canon-clause-did g c = λ files reading told h.
@@ -41,7 +43,21 @@ pub returns-in-Some-Canon-clause-read : goal.returns-in-Some-Canon-clause-read
 returns-in-Some-Canon-clause-read g c = λ files told done. (Ok [], command_reads (map string_bytes c.args.words.now) files _ (sym c.in-Some-Canon.ensures ∙ ap (λ (k : Command). Some (command_in k)) c.in-Some-Canon.field-0-is) (Ok []) tt)
 
 pub returns-in-Some-Canon-clause-causes : goal.returns-in-Some-Canon-clause-causes
-returns-in-Some-Canon-clause-causes g c = settled_causes c.settle-in-Some-Canon.result c.canon_file.result _ _ _ _ _ _ c.canon_file.ensures.cause c.settle-in-Some-Canon.ensures.read c.settle-in-Some-Canon.ensures.write c.settle-in-Some-Canon.ensures.quiet.0
+returns-in-Some-Canon-clause-causes g c =
+    command_causes (map string_bytes c.args.words.now) _ (sym c.in-Some-Canon.ensures ∙ ap (λ (k : Command). Some (command_in k)) c.in-Some-Canon.field-0-is) c.settle-in-Some-Canon.result _ _ _ _ _ _
+    (settled_causes _ c.settle-in-Some-Canon.result c.canon_file.result _ _ _ _ _ _ tt c.canon_file.ensures.cause c.settle-in-Some-Canon.ensures.read c.settle-in-Some-Canon.ensures.write c.settle-in-Some-Canon.ensures.quiet)
+
+pub returns-in-Some-Text-clause-did : goal.returns-in-Some-Text-clause-did
+returns-in-Some-Text-clause-did g c = λ files reading told h.
+    says_command (map string_bytes c.args.words.now) files _ (sym c.in-Some-Text.ensures ∙ ap (λ (k : Command). Some (command_in k)) c.in-Some-Text.field-0-is) reading c.settle-in-Some-Text.result c.text_file.result _ _ _ _ told c.text_file.ensures.unchanged (c.text_file.ensures.told files told) c.settle-in-Some-Text.ensures.did
+
+pub returns-in-Some-Text-clause-read : goal.returns-in-Some-Text-clause-read
+returns-in-Some-Text-clause-read g c = λ files told done. (Ok [], command_reads (map string_bytes c.args.words.now) files _ (sym c.in-Some-Text.ensures ∙ ap (λ (k : Command). Some (command_in k)) c.in-Some-Text.field-0-is) (Ok []) tt)
+
+pub returns-in-Some-Text-clause-causes : goal.returns-in-Some-Text-clause-causes
+returns-in-Some-Text-clause-causes g c =
+    command_causes (map string_bytes c.args.words.now) _ (sym c.in-Some-Text.ensures ∙ ap (λ (k : Command). Some (command_in k)) c.in-Some-Text.field-0-is) c.settle-in-Some-Text.result _ _ _ _ _ _
+    (settled_causes _ c.settle-in-Some-Text.result c.text_file.result _ _ _ _ _ _ tt c.text_file.ensures.cause c.settle-in-Some-Text.ensures.read c.settle-in-Some-Text.ensures.write c.settle-in-Some-Text.ensures.quiet)
 
 pub returns-in-Some-Strip-clause-did : goal.returns-in-Some-Strip-clause-did
 returns-in-Some-Strip-clause-did g c = λ files reading told h.
@@ -51,7 +67,9 @@ pub returns-in-Some-Strip-clause-read : goal.returns-in-Some-Strip-clause-read
 returns-in-Some-Strip-clause-read g c = λ files told done. (Ok [], command_reads (map string_bytes c.args.words.now) files _ (sym c.in-Some-Strip.ensures ∙ ap (λ (k : Command). Some (command_in k)) c.in-Some-Strip.field-0-is) (Ok []) tt)
 
 pub returns-in-Some-Strip-clause-causes : goal.returns-in-Some-Strip-clause-causes
-returns-in-Some-Strip-clause-causes g c = settled_causes c.settle-in-Some-Strip.result c.strip_file.result _ _ _ _ _ _ c.strip_file.ensures.cause c.settle-in-Some-Strip.ensures.read c.settle-in-Some-Strip.ensures.write c.settle-in-Some-Strip.ensures.quiet.0
+returns-in-Some-Strip-clause-causes g c =
+    command_causes (map string_bytes c.args.words.now) _ (sym c.in-Some-Strip.ensures ∙ ap (λ (k : Command). Some (command_in k)) c.in-Some-Strip.field-0-is) c.settle-in-Some-Strip.result _ _ _ _ _ _
+    (settled_causes _ c.settle-in-Some-Strip.result c.strip_file.result _ _ _ _ _ _ tt c.strip_file.ensures.cause c.settle-in-Some-Strip.ensures.read c.settle-in-Some-Strip.ensures.write c.settle-in-Some-Strip.ensures.quiet)
 
 pub returns-in-Some-Link-clause-did : goal.returns-in-Some-Link-clause-did
 returns-in-Some-Link-clause-did g c = λ files reading told h.
@@ -61,7 +79,9 @@ pub returns-in-Some-Link-clause-read : goal.returns-in-Some-Link-clause-read
 returns-in-Some-Link-clause-read g c = λ files told done. (Ok [], command_reads (map string_bytes c.args.words.now) files _ (sym c.in-Some-Link.ensures ∙ ap (λ (k : Command). Some (command_in k)) c.in-Some-Link.field-0-is) (Ok []) tt)
 
 pub returns-in-Some-Link-clause-causes : goal.returns-in-Some-Link-clause-causes
-returns-in-Some-Link-clause-causes g c = settled_causes c.settle-in-Some-Link.result c.link_files.result _ _ _ _ _ _ c.link_files.ensures.cause c.settle-in-Some-Link.ensures.read c.settle-in-Some-Link.ensures.write c.settle-in-Some-Link.ensures.quiet.0
+returns-in-Some-Link-clause-causes g c =
+    command_causes (map string_bytes c.args.words.now) _ (sym c.in-Some-Link.ensures ∙ ap (λ (k : Command). Some (command_in k)) c.in-Some-Link.field-0-is) c.settle-in-Some-Link.result _ _ _ _ _ _
+    (settled_causes _ c.settle-in-Some-Link.result c.link_files.result _ _ _ _ _ _ tt c.link_files.ensures.cause c.settle-in-Some-Link.ensures.read c.settle-in-Some-Link.ensures.write c.settle-in-Some-Link.ensures.quiet)
 
 -- ---- runs
 
@@ -80,3 +100,9 @@ returns-in-Some-Once-clause-did g c = λ files reading told h. on_command (map s
 
 pub returns-in-Some-Once-clause-read : goal.returns-in-Some-Once-clause-read
 returns-in-Some-Once-clause-read g c = λ files told done. (Ok [], command_reads (map string_bytes c.args.words.now) files _ (sym c.in-Some-Once.ensures ∙ ap (λ (k : Command). Some (command_in k)) c.in-Some-Once.field-0-is) (Ok []) tt)
+
+pub returns-in-Some-Run-clause-causes : goal.returns-in-Some-Run-clause-causes
+returns-in-Some-Run-clause-causes g c = command_causes (map string_bytes c.args.words.now) _ (sym c.in-Some-Run.ensures ∙ ap (λ (k : Command). Some (command_in k)) c.in-Some-Run.field-0-is) c.run.result _ _ _ _ _ _ c.run.ensures.causes
+
+pub returns-in-Some-Once-clause-causes : goal.returns-in-Some-Once-clause-causes
+returns-in-Some-Once-clause-causes g c = command_causes (map string_bytes c.args.words.now) _ (sym c.in-Some-Once.ensures ∙ ap (λ (k : Command). Some (command_in k)) c.in-Some-Once.field-0-is) c.once.result _ _ _ _ _ _ c.once.ensures.causes
