@@ -1,7 +1,7 @@
 -- What the collector does on the open blocks.
 use Rattle.std.specs.Prelude.{ℕ, ◌+◌, ◌<◌, ◌^◌, List, [], ◌∷◌, Option, Some, None}
 use Rattle.ctw_ops.specs.Types.{ValueType}
-use Rattle.ctw_stack.specs.Opens.{Open, Taken, after_pop}
+use Rattle.ctw_stack.specs.Opens.{Open}
 use Rattle.ctw_labels.specs.Names.{Tag, At, Fixed}
 use Rattle.ctw_labels.specs.Links.{Fact, wants, facts_of_end}
 use Rattle.ctw_labels.specs.FlatSites.{handed}
@@ -10,14 +10,6 @@ use Rattle.ctw_labels.specs.FlatSites.{handed}
 abbrev pub wants_on : ℕ → ValueType Tag → List (Open Tag) → List (Fact Tag)
 wants_on r t [] = []
 wants_on r t (b ∷ outer) = wants r t b.operands
-
--- the blocks without it; as they were where there is none
-abbrev pub left_by : List (Open Tag) → Option (Taken Tag) → List (Open Tag)
-left_by blocks None = blocks
-left_by blocks (Some p) = p.blocks
-
-abbrev pub left_on : List (Open Tag) → List (Open Tag)
-left_on blocks = left_by blocks (after_pop blocks)
 
 -- the innermost block is closed
 abbrev pub handed_on : List (Open Tag) → List (Open Tag)

@@ -1,11 +1,11 @@
 -- Flows of a secret into a public place, and the labelling that is secret where secrets flow.
-use Rattle.std.specs.Prelude.{◌↔◌, ℕ, ◌≤◌, Bool, true, false, ◌⊎◌, List, [], ◌∷◌, Contains}
+use Rattle.std.specs.Prelude.{◌≡◌, ◌↔◌, ℕ, ◌≤◌, ◌-◌, Bool, true, false, ◌⊎◌, List, [], ◌∷◌, length, Some, slice_index, unwrap_or, Contains}
 use Rattle.ctw_ops.specs.declared.types.Label.{Label}
 use Rattle.ctw_ops.specs.declared.types.Label.TheVariants.{Public, Secret}
 use Rattle.ctw_flow.specs.declared.graph.Edge.{Edge}
 use Rattle.ctw_flow.specs.Graph.{row, HasLink}
 use Rattle.ctw_labels.specs.Links.{Link, Must}
-use Rattle.ctw_labels.specs.Fits.{Mark}
+use Rattle.ctw_labels.specs.Fits.{Mark, rule_between, must_of}
 
 abbrev pub IsMarked : List Mark → ℕ → Label → Type 0
 IsMarked marks n l = Contains marks (record { site = n; label = l })
@@ -37,3 +37,22 @@ pub record IsGraphOf (links : List Link) (g : List (List Edge)) : Type 0 where
 abbrev pub label_of : Bool → Label
 label_of true = Secret
 label_of false = Public
+
+-- each rule is the least one from a site to the next
+abbrev pub AreLeastRules : List Link → List ℕ → List ℕ → Type 0
+AreLeastRules links (x ∷ y ∷ sites) (r ∷ rules) =
+    (rule_between x y links ≡ Some r) × AreLeastRules links (y ∷ sites) rules
+AreLeastRules links (x ∷ []) [] = Unit {0}
+AreLeastRules links _ _ = ⊥
+
+-- the last one of sites
+abbrev pub last_of : List ℕ → ℕ
+last_of sites = slice_index sites (length sites - 1)
+
+-- the number that stands for a mark
+abbrev pub marked : ℕ
+marked = 255
+
+-- the least rule by which a site is public; else it is marked
+abbrev pub reason : List Must → ℕ → ℕ
+reason musts n = unwrap_or (must_of n musts) marked

@@ -1,0 +1,4 @@
+pub mod Asks
+pub mod Collected
+pub mod Firsts
+pub mod Uses
