@@ -1,0 +1,4 @@
+pub mod FlowLaws
+pub mod LineLaws
+pub mod MarkLaws
+pub mod SiteLaws
