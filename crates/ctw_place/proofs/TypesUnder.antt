@@ -1,0 +1,77 @@
+-- The types of parameters under labels, one after another.
+use Rattle.std.proofs.Common.{◌≡◌, ◌<◌, ◌≤◌, ℕ, suc, ◌+◌, Bool, true, false, ◌&&◌, List, [], ◌∷◌, ◌++◌, length, take, map, slice_get, get_or, is_some, IsTrue, IfSome, Option, Some, None, refl, sym, ap, ◌∙◌, arith}
+use Rattle.std.specs.Prelude.{option_map}
+use Rattle.std.specs.List.{list_all}
+use Rattle.std.proofs.lemmas.Bool.{false≢true}
+use Rattle.std.proofs.lemmas.List.{take_all, length-map}
+use Rattle.std.proofs.lemmas.Option.{slice_get-map}
+use Rattle.ctw_ops.specs.declared.types.Label.{Label}
+use Rattle.ctw_ops.specs.Types.{ValueType, type_byte, byte_type, byte_types, is_type_byte, value_type}
+use Rattle.ctw_ops.specs.TagMaps.{type_to}
+use Rattle.ctw_form.proofs.Params.{types_at, type_byte_at, types_length}
+use Rattle.ctw_labels.specs.declared.tag.Tag.{Tag}
+use Rattle.ctw_labels.specs.declared.tag.Tag.TheVariants.{At}
+use Rattle.ctw_labels.specs.Numbering.{params_from, result_from}
+use Rattle.ctw_labels.specs.Placed.{is_public, are_public}
+use Rattle.ctw_sites.proofs.ScopeLaws.{params_at, params_length}
+use Rattle.ctw_write.specs.Canon.{all_texts, type_text}
+use Rattle.ctw_write.proofs.Listed.{Listed, listed_begin, listed_next, listed_end, take_next}
+
+and_end : (a b c : Bool) → (a && (b && c)) ≡ ((a && b) && c)
+and_end true b c = refl
+and_end false b c = refl
+
+and_true : (a : Bool) → (a && true) ≡ a
+and_true true = refl
+and_true false = refl
+
+public_end : (ts : List (ValueType Label)) (t : ValueType Label) → are_public (ts ++ t ∷ []) ≡ (are_public ts && is_public t.tag)
+public_end [] t = and_true (is_public t.tag)
+public_end (u ∷ ts) t = ap (λ z. is_public u.tag && z) (public_end ts t) ∙ and_end (is_public u.tag) (are_public ts) (is_public t.tag)
+
+module _ (L : Tag → Label) (q : ℕ) (bytes : List ℕ) where
+  abbrev under : List (ValueType Label)
+  under = map (type_to L) (params_from q (byte_types bytes))
+
+  -- the first ones are written
+  pub record TypesPut (i s : ℕ) (b : Bool) (start out : List ℕ) : Type 0 where
+    pub listed : Listed type_text under i start out
+    pub site : s ≡ q + i
+    pub public : b ≡ are_public (take i under)
+
+  module _ (h : IsTrue (list_all is_type_byte bytes)) where
+    at_under : (i : ℕ) (t : ValueType Label) → slice_get (byte_types bytes) i ≡ Some t → slice_get under i ≡ Some (value_type t.width (L (At (q + i))))
+    at_under i t e = slice_get-map (type_to L) (params_from q (byte_types bytes)) i ∙ ap (option_map (type_to L)) (params_at q (byte_types bytes) i ∙ ap (option_map (λ t. value_type t.width (At (q + i)))) e)
+
+    pub types_begin : (out : List ℕ) → TypesPut 0 q true out out
+    types_begin out = record { listed = listed_begin type_text under out out refl; site = omega arith; public = refl }
+
+    pub types_next : (i site byte : ℕ) (l : Label) (public next : Bool) (start out then : List ℕ) → i < length bytes → TypesPut i site public start out → l ≡ L (At site) → IfSome (byte_type (get_or bytes i 0)) (λ t. byte ≡ type_byte (value_type t.width l)) → then ≡ out ++ byte ∷ []
+        → next ≡ (public && is_public l) → TypesPut (i + 1) (site + 1) next start then
+    types_next i site byte l public next start out then lt k el is et en = go (byte_type (get_or bytes i 0)) (types_at bytes i 0 h lt) (type_byte_at bytes i 0 h lt) is
+      where
+        go : (o : Option (ValueType Label)) → slice_get (byte_types bytes) i ≡ o → IsTrue (is_some o) → IfSome o (λ t. byte ≡ type_byte (value_type t.width l)) → TypesPut (i + 1) (site + 1) next start then
+        go None e s w = absurd (false≢true s)
+        go (Some t) e s w =
+            let u : ValueType Label = value_type t.width (L (At (q + i))) in
+            let same : value_type t.width l ≡ u = ap (value_type t.width) (el ∙ ap (λ z. L (At z)) k.site) in
+            let more : suc i ≡ i + 1 = omega arith in
+            record {
+              listed = listed_next type_text under i u start out then (at_under i t e) (et ∙ ap (λ n. out ++ n ∷ []) (w ∙ ap type_byte same)) k.listed;
+              site = let s = k.site in omega (arith, s);
+              public = en ∙ (λ j. k.public j && is_public ((el ∙ ap (λ z. L (At z)) k.site) j)) ∙ sym (public_end (take i under) u) ∙ ap are_public (sym (take_next under i u (at_under i t e))) ∙ ap (λ z. are_public (take z under)) more;
+            }
+
+    under_length : length under ≡ length bytes
+    under_length = length-map (params_from q (byte_types bytes)) (type_to L) ∙ params_length q (byte_types bytes) ∙ types_length bytes h
+
+    pub types_put : (i site : ℕ) (public : Bool) (start out : List ℕ) → length bytes ≤ i → TypesPut i site public start out → out ≡ start ++ all_texts type_text under
+    types_put i site public start out le k = let e = under_length in listed_end type_text under i start out (omega (arith, e, le)) k.listed
+
+    pub types_public : (i site : ℕ) (public : Bool) (start out : List ℕ) → length bytes ≤ i → TypesPut i site public start out → public ≡ are_public under
+    types_public i site public start out le k = let e = under_length in k.public ∙ ap are_public (take_all i under (omega (arith, e, le)))
+
+-- a result
+pub result_under : (L : Tag → Label) (n : ℕ) (t : Option (ValueType Label)) → option_map (type_to L) (result_from n t) ≡ option_map (λ u. value_type u.width (L (At n))) t
+result_under L n None = refl
+result_under L n (Some t) = refl

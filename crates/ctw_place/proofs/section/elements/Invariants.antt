@@ -1,0 +1,8 @@
+use Rattle.ctw_module.specs.Trees.{tree}
+use Rattle.ctw_write.specs.Canon.{element_text}
+use Rattle.ctw_write.proofs.Listed.{Listed}
+use Rattle.ctw_place.proofs.section.elements.Given as goal
+
+-- the first ones are written
+abbrev pub invariant-loop-i : goal.invariant-loop-i
+invariant-loop-i l = Listed element_text (tree l.m).elements l.i l.initial.out.items l.out.items

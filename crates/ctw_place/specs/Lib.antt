@@ -1,0 +1,11 @@
+pub mod Bodies
+pub mod Codes
+pub mod Flat
+pub mod Items
+pub mod Limits
+pub mod Made
+pub mod Ops
+pub mod Orderly
+pub mod Settings
+pub mod Variants
+pub mod Walks

@@ -1,0 +1,27 @@
+//! The laws of placed spellings, for the crates above: functions that do nothing, whose contracts hold.
+ghost use Rattle.std.specs.Prelude.{◌≡◌, ◌≤◌, ℕ, List, length, false};
+ghost use Rattle.ctw_ops.specs.declared.types.Label.{Label};
+ghost use Rattle.ctw_ops.specs.Tree.{Module};
+ghost use Rattle.ctw_ops.specs.Valid.{IsValid};
+ghost use Rattle.ctw_form.specs.Spelled.{Spells};
+ghost use Rattle.ctw_labels.specs.declared.tag.Tag.{Tag};
+ghost use Rattle.ctw_labels.specs.Placed.{placed};
+ghost use Rattle.ctw_labels.specs.Points.{Points, AreReleases};
+ghost use Rattle.ctw_labels.specs.SitedModule.{sites};
+ghost use Rattle.ctw_sites.specs.Packed.{most_sites};
+ghost use Rattle.ctw_write.specs.Canon.{canon};
+ghost use Rattle.ctw_place.specs.Limits.{most_ct_bytes};
+
+/// Where bytes spell a plain valid module whose sites are within the limit, the canonical bytes of its placed module are
+/// no longer than a CT module's file may be, for every labelling; and they spell the placed module and no other, where
+/// each release of the points stands in a trusted function.
+pub fn placed_modules_are_spelled()
+    ensures within { (bytes : List ℕ) (m : Module Label) → Spells bytes m → m.ct ≡ false → IsValid m
+        → length (sites m) ≤ most_sites → (p : Points) → (l : Tag → Label) → length (canon (placed l m p)) ≤ most_ct_bytes }
+    ensures spelled { (bytes : List ℕ) (m : Module Label) → Spells bytes m → m.ct ≡ false → IsValid m
+        → length (sites m) ≤ most_sites → (p : Points) → AreReleases p → (l : Tag → Label)
+        → Spells (canon (placed l m p)) (placed l m p) }
+    ensures only { (bytes : List ℕ) (m n : Module Label) → Spells bytes m → m.ct ≡ false → IsValid m
+        → length (sites m) ≤ most_sites → (p : Points) → AreReleases p → (l : Tag → Label)
+        → Spells (canon (placed l m p)) n → n ≡ placed l m p }
+{}
