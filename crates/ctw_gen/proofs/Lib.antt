@@ -1,0 +1,9 @@
+pub mod Counting
+pub mod Few
+pub mod Texts
+pub mod Steps
+pub mod Sections
+pub mod Formed
+pub mod Kept
+pub mod Moves
+pub mod Typed
