@@ -33,6 +33,9 @@ modules_limit = 134217728
 unfoldable pub script_limit : ℕ
 script_limit = 1048576
 
+unfoldable pub marks_limit : ℕ
+marks_limit = 1048576
+
 unfoldable pub vault_limit : ℕ
 vault_limit = 16777216
 

@@ -10,7 +10,7 @@ mod set_lines;
 mod sets;
 mod texts;
 
-pub use loading::{MODULE_LIMIT, SCRIPT_LIMIT, VAULT_LIMIT, load_file};
+pub use loading::{MARKS_LIMIT, MODULE_LIMIT, SCRIPT_LIMIT, VAULT_LIMIT, load_file};
 pub use modules::{read_module, read_valid};
 pub use parts::{LoadedPart, PartFile, load_parts};
 pub use said::{Said, Status, Stop, refuse};

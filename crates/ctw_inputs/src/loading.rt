@@ -15,6 +15,9 @@ pub const MODULE_LIMIT: u64 = 67_108_864;
 /// The greatest size of a script, in bytes.
 pub const SCRIPT_LIMIT: u64 = 1_048_576;
 
+/// The greatest size of a text of marks, in bytes.
+pub const MARKS_LIMIT: u64 = 1_048_576;
+
 /// The greatest size of a vault, in bytes.
 pub const VAULT_LIMIT: u64 = 16_777_216;
 

@@ -1,5 +1,5 @@
 //! Modules that are read and checked.
-ghost use Rattle.std.specs.Prelude.{◌≢◌, ◌<◌, ◌^◌, length, Err, IfOk, IfErr};
+ghost use Rattle.std.specs.Prelude.{◌≡◌, ◌≢◌, ◌<◌, ◌^◌, length, Err, IfOk, IfErr};
 ghost use Rattle.ctw_ops.specs.Valid.{IsValid};
 ghost use Rattle.ctw_form.specs.Spelled.{Spells};
 ghost use Rattle.ctw_module.specs.Trees.{tree, view_module};
@@ -45,6 +45,7 @@ pub fn read_valid<'a>(
     ensures quiet { result ≢ Err AReadFault }
     ensures refuses { IfErr result IsRefusal }
     ensures valid { IfOk result (λ m. IsValid (view_module m)) }
+    ensures profile { IfOk result (λ m. m.profile ≡ profile) }
     ensures spelled { IfOk result (λ m. Spells bytes.now (tree m)) }
 {
     let module = read_module(alloc, name, bytes)?.with_profile(profile);

@@ -1,6 +1,6 @@
 //! What a command says, and why it stops.
 ghost use Rattle.std.specs.Prelude.{◌≡◌, ◌≢◌, ℕ, List, IfOk};
-ghost use Rattle.ctw_inputs.specs.declared.said.Status.TheVariants.{Done, Refused};
+ghost use Rattle.ctw_inputs.specs.declared.said.Status.TheVariants.{Done, Refused, NoLabelling};
 ghost use Rattle.ctw_inputs.specs.declared.said.Stop.TheVariants as stop;
 ghost use Rattle.ctw_inputs.specs.Outcome.{ends};
 ghost use Rattle.ctw_inputs.specs.Saying.{IsCommandStatus};
@@ -64,6 +64,16 @@ impl Said {
     {
         Said {
             status: Status::Refused,
+            text,
+        }
+    }
+
+    /// The lines that tell why there is no labelling.
+    pub fn no_labelling(text: Vec<u8>) -> Said
+        ensures { result ≡ record { status = NoLabelling; text = text.items } }
+    {
+        Said {
+            status: Status::NoLabelling,
             text,
         }
     }

@@ -13,6 +13,10 @@ use Rattle.ctw_valid.specs.declared.fault.BodyFault.{BodyFault}
 use Rattle.ctw_valid.specs.declared.fault.BodyFault.TheVariants as body
 use Rattle.ctw_modcheck.specs.declared.fault.Invalid.{Invalid}
 use Rattle.ctw_modcheck.specs.declared.fault.Invalid.TheVariants as invalid
+use Rattle.ctw_marks.specs.declared.fault.MarkFault.{MarkFault}
+use Rattle.ctw_marks.specs.declared.fault.MarkFault.TheVariants as marks
+use Rattle.ctw_infer.specs.declared.fault.InferFault.{InferFault}
+use Rattle.ctw_infer.specs.declared.fault.InferFault.TheVariants as infer
 use Rattle.ctw_script.specs.Lines.{spaced}
 use Rattle.ctw_script.specs.declared.script.ScriptFault.{ScriptFault}
 use Rattle.ctw_script.specs.declared.script.ScriptFault.TheVariants as script
@@ -119,3 +123,31 @@ script_words script.NoMemory = []
 -- a script that isn't read
 abbrev pub script_line : ScriptFault → List ℕ
 script_line fault = spaced (codes "refused" ∷ codes "script" ∷ script_words fault)
+
+-- want of memory is no fault of marks, and has no words
+abbrev pub mark_words : MarkFault → List (List ℕ)
+mark_words (marks.Lex line) = codes "Lex" ∷ decimal line ∷ []
+mark_words (marks.Line line) = codes "Line" ∷ decimal line ∷ []
+mark_words (marks.NoPlace line) = codes "NoPlace" ∷ decimal line ∷ []
+mark_words (marks.Untrusted line) = codes "Untrusted" ∷ decimal line ∷ []
+mark_words marks.NoMemory = []
+
+-- marks that aren't read
+abbrev pub marks_line : MarkFault → List ℕ
+marks_line fault = spaced (codes "refused" ∷ codes "marks" ∷ mark_words fault)
+
+-- ---- refusals of inference
+
+-- a flow has lines of its own, and want of memory is no fault of a module: they have no words here
+abbrev pub infer_words : InferFault → List (List ℕ)
+infer_words infer.Labelled = codes "Labelled" ∷ []
+infer_words (infer.TooManySites count) = codes "TooManySites" ∷ decimal count ∷ []
+infer_words (infer.TrustCall caller at callee) =
+    codes "TrustCall" ∷ decimal caller ∷ decimal at ∷ decimal callee ∷ []
+infer_words (infer.TrustTable func) = codes "TrustTable" ∷ decimal func ∷ []
+infer_words (infer.Flow w) = []
+infer_words infer.NoMemory = []
+
+-- a module that isn't labelled
+abbrev pub infer_line : InferFault → List ℕ
+infer_line fault = spaced (codes "refused" ∷ codes "infer" ∷ infer_words fault)

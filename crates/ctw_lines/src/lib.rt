@@ -5,7 +5,7 @@ mod lines;
 mod types;
 
 pub use lines::{
-    add_number_word, add_numbered, add_space, add_word, check_line, not_text_line, read_line,
-    refusal_line, script_line,
+    add_number_word, add_numbered, add_space, add_word, check_line, infer_line, marks_line,
+    not_text_line, read_line, refusal_line, script_line,
 };
 pub use types::{add_external_word, add_function_word};

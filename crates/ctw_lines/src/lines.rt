@@ -1,9 +1,11 @@
 //! The lines that refuse files and words.
 ghost use Rattle.std.specs.Prelude.{◌≡◌, ◌++◌, ◌∷◌, [], OnOk, IfOk, codes, decimal};
 ghost use Rattle.ctw_script.specs.Lines.{blank_before_each};
-ghost use Rattle.ctw_lines.specs.Lines.{refusal_line, what_word, form_word, excess_words, read_line, space_word, rule_word, body_words, invalid_words, check_line, not_text_line, script_words, script_line};
+ghost use Rattle.ctw_lines.specs.Lines.{refusal_line, what_word, form_word, excess_words, read_line, space_word, rule_word, body_words, invalid_words, check_line, not_text_line, script_words, script_line, mark_words, marks_line, infer_words, infer_line};
 
 use ctw_form::{FormFault, FormKind};
+use ctw_infer::InferFault;
+use ctw_marks::MarkFault;
 use ctw_modcheck::Invalid;
 use ctw_ops::{SecretRule, Space, What};
 use ctw_script::ScriptFault;
@@ -258,6 +260,71 @@ pub fn script_line(alloc: Global, fault: ScriptFault) -> Result<Vec<u8>, AllocEr
 {
     let mut line = Vec::from_slice(alloc, b"refused script")?;
     add_script(&mut line, fault)?;
+    line.push(b'\n')?;
+    Ok(line)
+}
+
+/// Adds what is wrong with marks.
+fn add_marks(line: &mut Vec<u8>, fault: MarkFault) -> Result<(), AllocError>
+    ensures { OnOk result (line.new.items ≡ line.old.items ++ blank_before_each (mark_words fault)) }
+{
+    match fault {
+        MarkFault::Lex { line: number } => add_numbered(line, b"Lex", number),
+        MarkFault::Line { line: number } => add_numbered(line, b"Line", number),
+        MarkFault::NoPlace { line: number } => add_numbered(line, b"NoPlace", number),
+        MarkFault::Untrusted { line: number } => add_numbered(line, b"Untrusted", number),
+        MarkFault::NoMemory => Ok(()),
+    }
+}
+
+/// The line for marks that aren't read.
+pub fn marks_line(alloc: Global, fault: MarkFault) -> Result<Vec<u8>, AllocError>
+    ensures { IfOk result (λ line. line.items ≡ marks_line fault) }
+{
+    let mut line = Vec::from_slice(alloc, b"refused marks")?;
+    add_marks(&mut line, fault)?;
+    line.push(b'\n')?;
+    Ok(line)
+}
+
+/// Adds a kind, a function that calls, the call's opcode, and the function that is called.
+fn add_call(
+    line: &mut Vec<u8>,
+    kind: &[u8],
+    caller: u32,
+    at: u32,
+    callee: u32,
+) -> Result<(), AllocError>
+    ensures { OnOk result (line.new.items
+        ≡ line.old.items ++ blank_before_each (kind.now ∷ decimal caller ∷ decimal at ∷ decimal callee ∷ [])) }
+{
+    add_numbered(line, kind, caller)?;
+    add_number_word(line, at)?;
+    add_number_word(line, callee)
+}
+
+/// Adds why a module isn't labelled.
+fn add_infer(line: &mut Vec<u8>, fault: &InferFault) -> Result<(), AllocError>
+    ensures { OnOk result (line.new.items ≡ line.old.items ++ blank_before_each (infer_words fault.now)) }
+{
+    match fault {
+        InferFault::Labelled => add_word(line, b"Labelled"),
+        InferFault::TooManySites { count } => add_numbered(line, b"TooManySites", *count),
+        InferFault::TrustCall { caller, at, callee } => {
+            add_call(line, b"TrustCall", *caller, *at, *callee)
+        }
+        InferFault::TrustTable { func } => add_numbered(line, b"TrustTable", *func),
+        InferFault::Flow(_) => Ok(()),
+        InferFault::NoMemory => Ok(()),
+    }
+}
+
+/// The line for a module that isn't labelled; a flow has lines of its own.
+pub fn infer_line(alloc: Global, fault: &InferFault) -> Result<Vec<u8>, AllocError>
+    ensures { IfOk result (λ line. line.items ≡ infer_line fault.now) }
+{
+    let mut line = Vec::from_slice(alloc, b"refused infer")?;
+    add_infer(&mut line, fault)?;
     line.push(b'\n')?;
     Ok(line)
 }

@@ -4,6 +4,8 @@
 #[cfg(test)]
 mod calls;
 #[cfg(test)]
+mod infers;
+#[cfg(test)]
 mod links;
 #[cfg(test)]
 mod modules;

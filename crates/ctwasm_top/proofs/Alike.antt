@@ -27,7 +27,8 @@ use Rattle.ctw_inputs.specs.Outcome.{Outcome}
 use Rattle.ctw_inputs.specs.Inputs.{NamedFile, at_most, module_limit, modules_limit, script_limit, vault_limit, refuses, on_file, load_modules, on_text, on_moves, on_form, on_fault, module_under, read_parts, on_set, linked}
 use Rattle.ctwasm_top.specs.Lines.{told_lines}
 use Rattle.ctwasm_top.specs.SessionWords.{OnceWords, RunWords, same_file, same_in_once, same_in_run}
-use Rattle.ctwasm_top.specs.Words.{Command, Check, Canon, Text, Strip, Link, Run as Runs, Once, command_of, vault_in, vault_word}
+use Rattle.ctwasm_top.specs.Inference.{Found}
+use Rattle.ctwasm_top.specs.Words.{Command, Check, Canon, Text, Infer, Strip, Link, Run as Runs, Once, command_of, vault_in, vault_word}
 use Rattle.ctwasm_top.specs.Answer.{on_launch, ran, launched, unless_same, once_part, once_moves, once_answer, run_answer, on_words, answer, released_in, releases}
 use Rattle.ctwasm_top.specs.Headline.{OtherVault, SameOutcome}
 
@@ -179,20 +180,21 @@ module _ (f g : Files) (profile : Profile) where
       text_alike w.script script (λ (text : List ℕ). on_moves reading (λ (moves : List Move). launched profile w.parts contents v (ran w.sealed moves))) (λ (text : List ℕ). on_moves reading (λ (moves : List Move). launched profile w.parts contents v' (ran w.sealed moves)))
       (moves_alike reading _ _ (λ moves. launched_alike profile w.parts contents v v' w.sealed moves q))))))
 
-words_alike : (reading : Result (List Move) ScriptFault) (o : Option Command) (vault : List ℕ) (f g : Files) → vault_in o ≡ Some vault → OtherVault vault f g → Alike (on_words f reading o) (on_words g reading o)
-words_alike reading None vault f g e d = let n : None ≡ Some vault = e in absurd cc
-words_alike reading (Some (Check profile file)) vault f g e d = let n : None ≡ Some vault = e in absurd cc
-words_alike reading (Some (Canon file)) vault f g e d = let n : None ≡ Some vault = e in absurd cc
-words_alike reading (Some (Text profile file)) vault f g e d = let n : None ≡ Some vault = e in absurd cc
-words_alike reading (Some (Strip profile file)) vault f g e d = let n : None ≡ Some vault = e in absurd cc
-words_alike reading (Some (Link profile parts)) vault f g e d = let n : None ≡ Some vault = e in absurd cc
-words_alike reading (Some (Runs profile w)) vault f g e d = let n : Some w.vault ≡ Some vault = e in let q : w.vault ≡ vault = cc in run_alike f g profile reading w (subst (λ (v : List ℕ). OtherVault v f g) (sym q) d)
-words_alike reading (Some (Once profile w)) vault f g e d = let n : Some w.vault ≡ Some vault = e in let q : w.vault ≡ vault = cc in once_alike f g profile w (subst (λ (v : List ℕ). OtherVault v f g) (sym q) d)
+words_alike : (reading : Result (List Move) ScriptFault) (found : Found) (o : Option Command) (vault : List ℕ) (f g : Files) → vault_in o ≡ Some vault → OtherVault vault f g → Alike (on_words f reading found o) (on_words g reading found o)
+words_alike reading found None vault f g e d = let n : None ≡ Some vault = e in absurd cc
+words_alike reading found (Some (Check profile file)) vault f g e d = let n : None ≡ Some vault = e in absurd cc
+words_alike reading found (Some (Canon file)) vault f g e d = let n : None ≡ Some vault = e in absurd cc
+words_alike reading found (Some (Text profile file)) vault f g e d = let n : None ≡ Some vault = e in absurd cc
+words_alike reading found (Some (Infer profile file marks)) vault f g e d = let n : None ≡ Some vault = e in absurd cc
+words_alike reading found (Some (Strip profile file)) vault f g e d = let n : None ≡ Some vault = e in absurd cc
+words_alike reading found (Some (Link profile parts)) vault f g e d = let n : None ≡ Some vault = e in absurd cc
+words_alike reading found (Some (Runs profile w)) vault f g e d = let n : Some w.vault ≡ Some vault = e in let q : w.vault ≡ vault = cc in run_alike f g profile reading w (subst (λ (v : List ℕ). OtherVault v f g) (sym q) d)
+words_alike reading found (Some (Once profile w)) vault f g e d = let n : Some w.vault ≡ Some vault = e in let q : w.vault ≡ vault = cc in once_alike f g profile w (subst (λ (v : List ℕ). OtherVault v f g) (sym q) d)
 
 -- the two-vault theorem of the program
-pub answer_alike : (words : List (List ℕ)) (reading : Result (List Move) ScriptFault) (vault : List ℕ) (f g : Files) → vault_word words ≡ Some vault → OtherVault vault f g → releases words g reading ≡ releases words f reading
-    → SameOutcome (answer words g reading) (answer words f reading)
+pub answer_alike : (words : List (List ℕ)) (reading : Result (List Move) ScriptFault) (found : Found) (vault : List ℕ) (f g : Files) → vault_word words ≡ Some vault → OtherVault vault f g → releases words g reading found ≡ releases words f reading found
+    → SameOutcome (answer words g reading found) (answer words f reading found)
 unfolding answer
-answer_alike words reading vault f g e d r =
-    let same = (words_alike reading (command_of words) vault f g e d).by (sym r) in
+answer_alike words reading found vault f g e d r =
+    let same = (words_alike reading found (command_of words) vault f g e d).by (sym r) in
     record { out = sym same.out; status = sym same.status; saves = sym same.saves }

@@ -1,5 +1,5 @@
 -- How the commands that run sets end.
-use Rattle.std.proofs.Common.{IsOk, ◌-◌, ◌≡◌, ◌⊎◌, inl, inr, ◌≢◌, ℕ, Bool, true, false, List, [], ◌∷◌, length, Option, Some, None, Result, Ok, Err, ◌≤◌, map, refl, sym, ap, ◌∙◌, subst, take, nat_le, cond, codes}
+use Rattle.std.proofs.Common.{IsOk, ◌-◌, ◌≡◌, ◌⊎◌, inl, inr, ℕ, Bool, true, false, List, [], ◌∷◌, length, Option, Some, None, Result, Ok, Err, ◌≤◌, map, refl, sym, ap, ◌∙◌, subst, take, nat_le, cond, codes}
 use Rattle.std.proofs.lemmas.Bool.{leb-true}
 use Rattle.std.proofs.lemmas.List.{length-map}
 use Rattle.std.specs.Str.{is_utf8}
@@ -10,7 +10,7 @@ use Rattle.ctw_io.specs.Taken.{grown, TookPrefix}
 use Rattle.ctw_ops.specs.declared.numeric.Profile.{Profile}
 use Rattle.ctw_script.specs.declared.moves.Move.{Move}
 use Rattle.ctw_script.specs.declared.script.ScriptFault.{ScriptFault}
-use Rattle.ctw_link.specs.Sets.{ModuleSet, set_of}
+use Rattle.ctw_link.specs.Sets.{ModuleSet}
 use Rattle.ctw_moves.specs.States.{State}
 use Rattle.ctw_moves.specs.Runs.{Run, plays}
 use Rattle.ctw_session.specs.declared.live.Live.{Live}
@@ -23,7 +23,7 @@ use Rattle.ctw_inputs.specs.declared.parts.PartFile.{PartFile}
 use Rattle.ctw_inputs.specs.declared.parts.LoadedPart.{LoadedPart}
 use Rattle.ctw_inputs.specs.Parts.{part_named, names, contents, bytes_in}
 use Rattle.ctw_inputs.specs.Inputs.{NamedFile, script_limit, vault_limit, modules_limit, refuses, module_limit, at_most, on_file, load, load_modules, on_text, on_moves}
-use Rattle.ctw_inputs.specs.Settling.{IsStop, SaysSo, Reads}
+use Rattle.ctw_inputs.specs.Settling.{IsStop, Reads}
 use Rattle.ctw_lines.specs.Lines.{not_text_line}
 use Rattle.ctwasm_top.specs.Headline.{with_saves, AreHalfSaved, Did, DidTold}
 use Rattle.ctwasm_top.specs.Lines.{told_lines}

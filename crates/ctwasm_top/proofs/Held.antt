@@ -1,9 +1,5 @@
 -- The answer over files that hold what the words ask for, and what the files hold where the work is done.
 use Rattle.std.proofs.Common.{◌≡◌, ◌≤◌, ◌-◌, ◌≢◌, ℕ, Bool, true, false, List, [], ◌∷◌, length, Option, Some, None, Result, Ok, refl, sym, ap, ◌∙◌, nat_le, cond, subst, arith, codes}
-use Rattle.std.proofs.lemmas.Bool.{le-leb}
-use Rattle.std.specs.Str.{is_utf8}
-use Rattle.std.specs.Str.Lossy.{utf8_valid_len}
-use Rattle.ctw_lines.specs.Lines.{not_text_line}
 use Rattle.std.specs.FinMap.{get}
 use Rattle.ctw_io.specs.Files.{Files}
 use Rattle.ctw_ops.specs.declared.types.Label.{Label}
@@ -34,14 +30,17 @@ use Rattle.ctw_moves.specs.LaunchedStates.{Launch, launch}
 use Rattle.ctw_inputs.specs.declared.said.Status.{Status}
 use Rattle.ctw_inputs.specs.declared.said.Status.TheVariants.{Done, Refused, Usage}
 use Rattle.ctw_inputs.specs.Outcome.{Outcome, ends}
-use Rattle.ctw_inputs.specs.Inputs.{NamedFile, at_most, module_limit, modules_limit, script_limit, vault_limit, refuses, on_file, load_modules, on_text, on_moves, on_form, on_set, read_parts, linked, module_under, read_valid}
+use Rattle.ctw_inputs.specs.Inputs.{NamedFile, at_most, module_limit, modules_limit, script_limit, vault_limit, on_file, load_modules, on_text, on_moves, on_form, on_set, read_parts, linked, module_under, read_valid}
 use Rattle.ctw_inputs.specs.Settling.{Reads}
 use Rattle.ctwasm_top.proofs.Profiles.{under_ok, spelled_under, valid_under, module_read_valid}
 use Rattle.ctwasm_top.specs.SessionWords.{OnceWords, RunWords, same_in_once, same_in_run}
-use Rattle.ctwasm_top.specs.Words.{Command, Check, Canon, Text, Strip, Link, Run, Once, command_of}
+use Rattle.ctwasm_top.specs.Inference.{Found}
+use Rattle.ctwasm_top.specs.Words.{Command, Check, Canon, Text, Infer, Strip, Link, Run, Once, command_of}
 use Rattle.ctwasm_top.specs.Lines.{linked_line}
-use Rattle.ctwasm_top.specs.Answer.{spelled, printed, stripped, matched, on_launch, ran, launched, unless_same, once_part, once_moves, on_words, answer, ReadsScript}
+use Rattle.ctwasm_top.specs.Answer.{spelled, printed, stripped, matched, on_launch, ran, launched, unless_same, once_part, once_moves, on_words, answer, ReadsScript, FindsMarks}
 use Rattle.ctwasm_top.specs.ValidCalls.{HoldsValid, HoldsModule, HoldParts, HoldsSet, HoldsSession, HoldsScript, HoldsInputs, IsSpelledAgain, IsPrinted, IsSpelledErased, WritesModule}
+use Rattle.ctwasm_top.proofs.There.{there, text_there}
+use Rattle.ctwasm_top.proofs.Inferred.{infer_done, infer_passed}
 use Rattle.ctwasm_top.proofs.Going.{HoldBytes, file_goes, form_goes, fault_goes, load_goes, launch_goes, linked_goes, run_goes, once_goes}
 use Rattle.ctwasm_top.proofs.Dispatched.{script_reads}
 use Rattle.ctwasm_top.proofs.Settled.{erased_under}
@@ -61,11 +60,6 @@ both_limits n a b h k = at (nat_le a b)
     at : (t : Bool) → n ≤ cond t a b
     at true = h
     at false = k
-
-pub there : (name : List ℕ) (limit : ℕ) (o : Option (List ℕ)) (bytes : List ℕ) (go : List ℕ → Outcome) → o ≡ Some bytes → length bytes ≤ limit → on_file name limit o go ≡ go bytes
-there name limit o bytes go e h =
-    ap (λ (o : Option (List ℕ)). on_file name limit o go) e
-    ∙ ap (λ (b : Bool). cond b (go bytes) (refuses (codes "TooLarge") name)) (le-leb (length bytes) limit h)
 
 -- ---- one module
 
@@ -207,9 +201,6 @@ once_done profile files w same h =
     ∙ there w.vault vault_limit (get files w.vault) h.bytes (last g.contents) h.told h.short)
     ∙ launch_holds profile files parts w.vault h w.sealed (once_moves w) last (λ contents bytes. refl) g
 
-text_there : (name bytes : List ℕ) (go : List ℕ → Outcome) → is_utf8 bytes ≡ true → on_text name bytes go ≡ go bytes
-text_there name bytes go e = ap (λ (b : Bool). cond b (go bytes) (ends Refused (not_text_line name (utf8_valid_len bytes)))) e
-
 run_done : (profile : Profile) (files : Files) (w : RunWords) (script : HoldsScript files w.script) → same_in_run w ≡ None → HoldsSession files profile w.parts w.vault
     → (unless_same (same_in_run w)
     (on_file w.script script_limit (get files w.script)
@@ -243,14 +234,15 @@ module _ (files : Files) where
   not_both : (a : Status) → a ≡ Done → a ≢ Refused
   not_both a d r = let e : Refused ≡ Done = sym r ∙ d in cc
 
-  command_held : (reading : Result (List Move) ScriptFault) (command : Option Command) → ReadsScript command files reading → (on_words files reading command).status ≡ Done → HoldsInputs files command
-  command_held reading None reads e = let d : Usage ≡ Done = e in absurd cc
-  command_held reading (Some (Check p name)) reads e = valid_done p name files (λ m. codes "ok\n") e
-  command_held reading (Some (Canon name)) reads e = canon_done name files e
-  command_held reading (Some (Text p name)) reads e = valid_done p name files (λ m. text_of_module m) e
-  command_held reading (Some (Strip p name)) reads e = valid_done p name files (λ m. canon (erase_module m)) e
-  command_held reading (Some (Link p parts)) reads e = link_done p files parts e
-  command_held reading (Some (Run p w)) reads e =
+  command_held : (reading : Result (List Move) ScriptFault) (found : Found) (command : Option Command) → ReadsScript command files reading → FindsMarks command files found → (on_words files reading found command).status ≡ Done → HoldsInputs files command
+  command_held reading found None reads finds e = let d : Usage ≡ Done = e in absurd cc
+  command_held reading found (Some (Check p name)) reads finds e = valid_done p name files (λ m. codes "ok\n") e
+  command_held reading found (Some (Canon name)) reads finds e = canon_done name files e
+  command_held reading found (Some (Text p name)) reads finds e = valid_done p name files (λ m. text_of_module m) e
+  command_held reading found (Some (Infer p name marks)) reads finds e = infer_done files found p name marks finds e
+  command_held reading found (Some (Strip p name)) reads finds e = valid_done p name files (λ m. canon (erase_module m)) e
+  command_held reading found (Some (Link p parts)) reads finds e = link_done p files parts e
+  command_held reading found (Some (Run p w)) reads finds e =
       let r = run_goes is_done refused_not_done files p reading w e in (
         r.alone,
         record {
@@ -263,29 +255,30 @@ module _ (files : Files) where
         },
         session_done p files w.parts r.contents w.vault r.bytes w.sealed r.moves r.held r.vault r.vault_short r.launches,
       )
-  command_held reading (Some (Once p w)) reads e =
+  command_held reading found (Some (Once p w)) reads finds e =
       let r = once_goes is_done refused_not_done files p w e in
       (r.alone, session_done p files (once_part w ∷ []) r.contents w.vault r.bytes w.sealed (once_moves w) r.held r.vault r.vault_short r.launches)
 
   -- what the files hold where the work is done
-  pub inputs_held : (words : List (List ℕ)) (reading : Result (List Move) ScriptFault) → ReadsScript (command_of words) files reading → (answer words files reading).status ≡ Done → HoldsInputs files (command_of words)
+  pub inputs_held : (words : List (List ℕ)) (reading : Result (List Move) ScriptFault) (found : Found) → ReadsScript (command_of words) files reading → FindsMarks (command_of words) files found → (answer words files reading found).status ≡ Done → HoldsInputs files (command_of words)
   unfolding answer
-  inputs_held words reading reads e = command_held reading (command_of words) reads e
+  inputs_held words reading found reads finds e = command_held reading found (command_of words) reads finds e
 
-  command_written : (reading : Result (List Move) ScriptFault) (command : Option Command) → (on_words files reading command).status ≡ Done → WritesModule files command (on_words files reading command).out
-  command_written reading None e = tt
-  command_written reading (Some (Check p name)) e = tt
-  command_written reading (Some (Canon name)) e = canon_written name files e
-  command_written reading (Some (Text p name)) e = text_written p name files e
-  command_written reading (Some (Strip p name)) e = strip_written p name files e
-  command_written reading (Some (Link p parts)) e = tt
-  command_written reading (Some (Run p w)) e = tt
-  command_written reading (Some (Once p w)) e = tt
+  command_written : (reading : Result (List Move) ScriptFault) (found : Found) (command : Option Command) → (on_words files reading found command).status ≡ Done → WritesModule files command (on_words files reading found command).out
+  command_written reading found None e = tt
+  command_written reading found (Some (Check p name)) e = tt
+  command_written reading found (Some (Canon name)) e = canon_written name files e
+  command_written reading found (Some (Text p name)) e = text_written p name files e
+  command_written reading found (Some (Infer p name marks)) e = tt
+  command_written reading found (Some (Strip p name)) e = strip_written p name files e
+  command_written reading found (Some (Link p parts)) e = tt
+  command_written reading found (Some (Run p w)) e = tt
+  command_written reading found (Some (Once p w)) e = tt
 
   -- what the bytes spell that were written
-  pub module_written : (words : List (List ℕ)) (reading : Result (List Move) ScriptFault) → (answer words files reading).status ≡ Done → WritesModule files (command_of words) (answer words files reading).out
+  pub module_written : (words : List (List ℕ)) (reading : Result (List Move) ScriptFault) (found : Found) → (answer words files reading found).status ≡ Done → WritesModule files (command_of words) (answer words files reading found).out
   unfolding answer
-  module_written words reading e = command_written reading (command_of words) e
+  module_written words reading found e = command_written reading found (command_of words) e
 
   -- the reading of the script of files that hold one
   abbrev pub held_reading : (command : Option Command) → HoldsInputs files command → Result (List Move) ScriptFault
@@ -297,23 +290,25 @@ module _ (files : Files) where
   held_reads (Some (Check p name)) h = tt
   held_reads (Some (Canon name)) h = tt
   held_reads (Some (Text p name)) h = tt
+  held_reads (Some (Infer p name marks)) h = tt
   held_reads (Some (Strip p name)) h = tt
   held_reads (Some (Link p parts)) h = tt
   held_reads (Some (Run p w)) h = script_reads p w files h.1
   held_reads (Some (Once p w)) h = tt
 
-  command_passed : (command : Option Command) (h : HoldsInputs files command) → (on_words files (held_reading command h) command).status ≢ Refused
+  command_passed : (found : Found) (command : Option Command) (h : HoldsInputs files command) → FindsMarks command files found → (on_words files (held_reading command h) found command).status ≢ Refused
   unfolding vault_limit
-  command_passed None h = absurd h
-  command_passed (Some (Check p name)) h = not_both _ (valid_holds p name files (λ m. codes "ok\n") h)
-  command_passed (Some (Canon name)) h = not_both _ (ap (λ (a : Outcome). a.status) (canon_given name files h))
-  command_passed (Some (Text p name)) h = not_both _ (valid_holds p name files (λ m. text_of_module m) h)
-  command_passed (Some (Strip p name)) h = not_both _ (valid_holds p name files (λ m. canon (erase_module m)) h)
-  command_passed (Some (Link p parts)) h = not_both _ (link_holds p files parts h)
-  command_passed (Some (Run p w)) h = not_both _ (run_done p files w h.1 h.0 h.2)
-  command_passed (Some (Once p w)) h = not_both _ (once_done p files w h.0 h.1)
+  command_passed found None h finds = absurd h
+  command_passed found (Some (Check p name)) h finds = not_both _ (valid_holds p name files (λ m. codes "ok\n") h)
+  command_passed found (Some (Canon name)) h finds = not_both _ (ap (λ (a : Outcome). a.status) (canon_given name files h))
+  command_passed found (Some (Text p name)) h finds = not_both _ (valid_holds p name files (λ m. text_of_module m) h)
+  command_passed found (Some (Infer p name marks)) h finds = infer_passed files found p name marks h finds
+  command_passed found (Some (Strip p name)) h finds = not_both _ (valid_holds p name files (λ m. canon (erase_module m)) h)
+  command_passed found (Some (Link p parts)) h finds = not_both _ (link_holds p files parts h)
+  command_passed found (Some (Run p w)) h finds = not_both _ (run_done p files w h.1 h.0 h.2)
+  command_passed found (Some (Once p w)) h finds = not_both _ (once_done p files w h.0 h.1)
 
   -- no files that hold what the command asks for are refused
-  pub inputs_passed : (words : List (List ℕ)) (h : HoldsInputs files (command_of words)) → (answer words files (held_reading (command_of words) h)).status ≢ Refused
+  pub inputs_passed : (words : List (List ℕ)) (found : Found) (h : HoldsInputs files (command_of words)) → FindsMarks (command_of words) files found → (answer words files (held_reading (command_of words) h) found).status ≢ Refused
   unfolding answer
-  inputs_passed words h = command_passed (command_of words) h
+  inputs_passed words found h finds = command_passed found (command_of words) h finds

@@ -1,5 +1,5 @@
 -- What a fault of a launch tells in words.
-use Rattle.std.proofs.Common.{◌≡◌, ℕ, List, [], ◌∷◌, ◌++◌, Option, Some, None, option_map, slice_get, Result, OnOk, refl, sym, ap, ◌∙◌, decimal, codes}
+use Rattle.std.proofs.Common.{◌≡◌, ℕ, List, [], ◌∷◌, ◌++◌, option_map, Result, OnOk, refl, ap, ◌∙◌, decimal, codes}
 use Rattle.std.proofs.lemmas.Option.{slice_get-map}
 use Rattle.ctw_ops.specs.declared.fault.Space.{Space}
 use Rattle.ctw_ops.specs.declared.fault.Space.TheVariants as space

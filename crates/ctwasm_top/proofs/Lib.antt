@@ -9,6 +9,10 @@ pub mod Opening
 pub mod Ending
 pub mod Going
 pub mod Dispatched
+pub mod There
+pub mod Inferred
+pub mod Labelling
 pub mod Held
 pub mod Alike
 pub mod Stripped
+pub mod Untrusted

@@ -1,15 +1,14 @@
 -- Sessions that are opened.
-use Rattle.std.proofs.Common.{◌≡◌, ◌≢◌, ℕ, List, Option, Result, Ok, Err, refl, sym, ap, ◌∙◌, subst}
+use Rattle.std.proofs.Common.{◌≡◌, ◌≢◌, ℕ, List, Result, Ok, Err, refl, sym, ap, ◌∙◌, subst}
 use Rattle.ctw_link.specs.declared.set.Part.{Part}
 use Rattle.ctw_link.specs.Sets.{ModuleSet, set_of}
 use Rattle.ctw_launch.specs.Launched as Launched
 use Rattle.ctw_launch.specs.Launched.{Started, Stands, Fails}
 use Rattle.ctw_moves.specs.States.{State}
-use Rattle.ctw_moves.specs.LaunchedStates.{Launch, Ready, Faulty, first_state, with_vault, launch}
+use Rattle.ctw_moves.specs.LaunchedStates.{first_state, with_vault, launch}
 use Rattle.ctw_session.specs.declared.live.Live.{Live}
 use Rattle.ctw_session.specs.declared.fault.LaunchFault.{LaunchFault}
 use Rattle.ctw_session.specs.declared.fault.LaunchFault.TheVariants as faults
-use Rattle.ctw_session.specs.LiveStates.{StandsFor}
 use Rattle.ctw_session.specs.Launches.{TellsFault, Denies, IsLaunched}
 use Rattle.ctw_inputs.specs.declared.said.Stop.{Stop}
 use Rattle.ctw_inputs.specs.declared.said.Status.TheVariants.{Refused}

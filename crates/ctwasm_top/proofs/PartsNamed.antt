@@ -1,5 +1,5 @@
 -- The parts that words name.
-use Rattle.std.proofs.Common.{◌≡◌, ℕ, zero, suc, ◌≤◌, ◌==◌, ◌&&◌, nat_le, cond, Bool, true, false, List, map, length, Some, None, filter_map, ap, ◌∙◌, arith}
+use Rattle.std.proofs.Common.{◌≡◌, ℕ, zero, suc, ◌≤◌, ◌==◌, nat_le, cond, Bool, false, List, map, length, Some, None, filter_map, ap, ◌∙◌, arith}
 use Rattle.std.proofs.lemmas.Bool.{and_from, le-leb}
 use Rattle.std.proofs.lemmas.List.{length-map}
 use Rattle.ctwasm_top.specs.NamedFiles.{named_file, named_files}

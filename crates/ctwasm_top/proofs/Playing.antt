@@ -1,11 +1,10 @@
 -- Moves that are made one after another, and what they tell.
-use Rattle.std.proofs.Common.{◌≡◌, ◌<◌, ℕ, ◌+◌, List, [], ◌∷◌, ◌++◌, length, take, drop, get_or, slice_get, Option, Some, None, Result, Ok, Err, flat_map, refl, sym, ap, ◌∙◌, subst, arith, append_assoc, append-nil, length-append}
+use Rattle.std.proofs.Common.{◌≡◌, ◌<◌, ℕ, ◌+◌, List, [], ◌∷◌, ◌++◌, length, take, drop, get_or, slice_get, Option, Some, None, Result, Ok, Err, refl, sym, ap, ◌∙◌, subst, arith, append_assoc, append-nil, length-append}
 use Rattle.std.proofs.Math.Seq.{take-append-add}
 use Rattle.std.proofs.lemmas.List.{take-append-le, drop_more}
 use Rattle.std.proofs.lemmas.Option.{slice_get-get_or}
 use Rattle.std.proofs.lemmas.Grind.{flat_map-append}
 use Rattle.ctw_io.specs.Taken.{grown, TookPrefix}
-use Rattle.ctw_io.proofs.Taking.{took_all, took_none}
 use Rattle.ctw_script.specs.declared.event.Event.{Event}
 use Rattle.ctw_script.specs.declared.moves.Move.{Move}
 use Rattle.ctw_script.specs.declared.reply.Reply.{Reply}

@@ -14,9 +14,12 @@ use Rattle.ctw_link.specs.SetInstances.{set_instances, AllValid}
 use Rattle.ctw_moves.specs.States.{State}
 use Rattle.ctw_moves.specs.LaunchedStates.{Ready, launch}
 use Rattle.ctw_inputs.specs.Outcome.{Execution, Outcome, ends}
+use Rattle.ctw_inputs.specs.declared.said.Status.{Status}
 use Rattle.ctw_inputs.specs.declared.said.Status.TheVariants.{Done, Refused}
-use Rattle.ctw_inputs.specs.Inputs.{NamedFile, module_limit, modules_limit}
-use Rattle.ctwasm_top.specs.Words.{Command, Check, Canon, Text, Strip, Link, Run, Once, command_of}
+use Rattle.ctw_inputs.specs.Inputs.{NamedFile, module_limit, modules_limit, marks_limit, on_file, on_text, read_valid}
+use Rattle.ctwasm_top.specs.Inference.{Found, inferred}
+use Rattle.ctwasm_top.proofs.Inferred.{inferred_ends}
+use Rattle.ctwasm_top.specs.Words.{Command, Check, Canon, Text, Infer, Strip, Link, Run, Once, command_of}
 use Rattle.ctw_ops.specs.Erasure.{erase_module}
 use Rattle.ctw_form.specs.Read.{module_at}
 use Rattle.ctw_write.specs.Canon.{canon}
@@ -25,7 +28,7 @@ use Rattle.ctw_text.specs.Print.{printed as text_of_module}
 use Rattle.ctwasm_top.specs.Answer.{checked, spelled, printed, stripped, matched, ran, launched, once_part, once_moves, on_words, answer}
 use Rattle.ctwasm_top.specs.ValidCalls.{HoldParts}
 use Rattle.ctwasm_top.specs.Headline.{AreOctets, RunsStripped}
-use Rattle.ctwasm_top.proofs.Going.{HoldBytes, file_goes, form_goes, valid_goes, launch_goes, load_goes, linked_goes, run_goes, once_goes}
+use Rattle.ctwasm_top.proofs.Going.{HoldBytes, file_goes, text_goes, form_goes, valid_goes, launch_goes, load_goes, linked_goes, run_goes, once_goes}
 use Rattle.ctw_ops.specs.declared.types.Label.{Label}
 use Rattle.ctw_ops.specs.Tree.{Module, under}
 use Rattle.ctw_ops.specs.WithinLimits.{IsWithinLimits}
@@ -76,6 +79,9 @@ module _ (files : Files) (octets : AreOctets files) (e : Execution) where
   none_done : (text : List ℕ) → Executes (ends Done text) → ⊥
   none_done text q = let d : None ≡ Some e = q in cc
 
+  none_ended : (status : Status) (text : List ℕ) → Executes (ends status text) → ⊥
+  none_ended status text q = let d : None ≡ Some e = q in cc
+
   parts_come : (profile : Profile) (parts : List NamedFile) (contents : List (List ℕ)) (name vault sealed : List ℕ) (moves : List Move) → HoldBytes files modules_limit parts contents → get files name ≡ Some vault
       → Executes (launched profile parts contents vault (ran sealed moves)) → Comes e
   parts_come profile parts contents name vault sealed moves h v q =
@@ -93,49 +99,55 @@ module _ (files : Files) (octets : AreOctets files) (e : Execution) where
         launched = ap (λ (set : ModuleSet). launch set vault) (sym set) ∙ l.1 ∙ ap (λ (s : State). Ready s) state;
       }
 
-  command_comes : (reading : Result (List Move) ScriptFault) (command : Option Command) → Executes (on_words files reading command) → Comes e
-  command_comes reading None q = cc
-  command_comes reading (Some (Check p file)) q =
+  command_comes : (reading : Result (List Move) ScriptFault) (found : Found) (command : Option Command) → Executes (on_words files reading found command) → Comes e
+  command_comes reading found None q = cc
+  command_comes reading found (Some (Check p file)) q =
       let f = file_goes Executes none_refused file module_limit (get files file) (checked p file) q in
       let v = valid_goes Executes none_refused p file f.0 (λ (m : Module Label). ends Done (codes "ok\n")) f.3 in
       absurd (none_done (codes "ok\n") v.1)
-  command_comes reading (Some (Canon file)) q =
+  command_comes reading found (Some (Canon file)) q =
       let f = file_goes Executes none_refused file module_limit (get files file) (spelled file) q in
       let r = form_goes Executes none_refused file (module_at f.0) (λ (m : Module Label). ends Done (canon m)) f.3 in
       absurd (none_done (canon r.0) r.2)
-  command_comes reading (Some (Text p file)) q =
+  command_comes reading found (Some (Text p file)) q =
       let f = file_goes Executes none_refused file module_limit (get files file) (printed p file) q in
       let v = valid_goes Executes none_refused p file f.0 (λ (m : Module Label). ends Done (text_of_module m)) f.3 in
       absurd (none_done (text_of_module v.0) v.1)
-  command_comes reading (Some (Strip p file)) q =
+  command_comes reading found (Some (Infer p file marks)) q =
+      let f = file_goes Executes none_refused file module_limit (get files file) (λ (bytes : List ℕ). on_file marks marks_limit (get files marks) (λ (text : List ℕ). on_text marks text (λ (text : List ℕ). read_valid p file bytes (inferred found)))) q in
+      let k = file_goes Executes none_refused marks marks_limit (get files marks) (λ (text : List ℕ). on_text marks text (λ (text : List ℕ). read_valid p file f.0 (inferred found))) f.3 in
+      let t = text_goes Executes none_refused marks k.0 (λ (text : List ℕ). read_valid p file f.0 (inferred found)) k.3 in
+      let v = valid_goes Executes none_refused p file f.0 (inferred found) t.1 in
+      absurd (inferred_ends Executes none_ended found v.0 v.1)
+  command_comes reading found (Some (Strip p file)) q =
       let f = file_goes Executes none_refused file module_limit (get files file) (stripped p file) q in
       let v = valid_goes Executes none_refused p file f.0 (λ (m : Module Label). ends Done (canon (erase_module m))) f.3 in
       absurd (none_done (canon (erase_module v.0)) v.1)
-  command_comes reading (Some (Link p parts)) q =
+  command_comes reading found (Some (Link p parts)) q =
       let c = load_goes Executes none_refused files modules_limit parts (matched p parts) q in
       let r = linked_goes Executes none_refused p files modules_limit parts c.0 (λ (set : ModuleSet). ends Done (linked_line (length set))) c.1 c.2 in
       absurd (none_done (linked_line (length r.0)) r.3)
-  command_comes reading (Some (Run p w)) q =
+  command_comes reading found (Some (Run p w)) q =
       let r = run_goes Executes none_refused files p reading w q in
       parts_come p w.parts r.contents w.vault r.bytes w.sealed r.moves r.held r.vault r.launches
-  command_comes reading (Some (Once p w)) q =
+  command_comes reading found (Some (Once p w)) q =
       let r = once_goes Executes none_refused files p w q in
       parts_come p (once_part w ∷ []) r.contents w.vault r.bytes w.sealed (once_moves w) r.held r.vault r.launches
 
-  answer_comes : (words : List (List ℕ)) (reading : Result (List Move) ScriptFault) → (answer words files reading).execution ≡ Some e → Comes e
+  answer_comes : (words : List (List ℕ)) (reading : Result (List Move) ScriptFault) (found : Found) → (answer words files reading found).execution ≡ Some e → Comes e
   unfolding answer
-  answer_comes words reading q = command_comes reading (command_of words) q
+  answer_comes words reading found q = command_comes reading found (command_of words) q
 
   -- the erased execution is the execution, erased
-  pub runs_stripped : (words : List (List ℕ)) (reading : Result (List Move) ScriptFault) → All HasBytes e.moves → (answer words files reading).execution ≡ Some e → RunsStripped e
-  runs_stripped words reading b q =
-      let c = answer_comes words reading q in
+  pub runs_stripped : (words : List (List ℕ)) (reading : Result (List Move) ScriptFault) (found : Found) → All HasBytes e.moves → (answer words files reading found).execution ≡ Some e → RunsStripped e
+  runs_stripped words reading found b q =
+      let c = answer_comes words reading found q in
       let r = session_erased e.set c.matching c.valid c.limits c.vault e.state e.moves c.bytes b c.launched in
       record { valid = all_valid_erased e.set c.valid; matching = matching_erased e.set c.matching c.valid; launched = r.0; plays = r.1 }
 
   -- without trusted functions nothing is released
-  pub none_released : (words : List (List ℕ)) (reading : Result (List Move) ScriptFault) → All HasBytes e.moves → AllUntrusted (set_instances e.set) → (answer words files reading).execution ≡ Some e
+  pub none_released : (words : List (List ℕ)) (reading : Result (List Move) ScriptFault) (found : Found) → All HasBytes e.moves → AllUntrusted (set_instances e.set) → (answer words files reading found).execution ≡ Some e
       → (plays e.set e.state e.moves).releases ≡ []
-  none_released words reading b un q =
-      let c = answer_comes words reading q in
+  none_released words reading found b un q =
+      let c = answer_comes words reading found q in
       plays_quiet e.set un e.moves e.state (launch_sound e.set c.matching c.valid c.limits c.vault c.bytes e.state c.launched) b

@@ -1,8 +1,10 @@
--- The answer of the program: what its words give over told files, where the script has this reading.
-use Rattle.std.specs.Prelude.{◌≡◌, ◌≤◌, ℕ, List, [], ◌∷◌, map, length, true, Option, Some, None, Result, codes}
+-- The answer of the program: what its words give over told files, where the script has this reading and the marks this
+-- finding.
+use Rattle.std.specs.Prelude.{◌≡◌, ◌≤◌, ℕ, List, [], ◌∷◌, length, true, Option, Some, None, Result, codes}
 use Rattle.std.specs.Str.{is_utf8}
 use Rattle.std.specs.FinMap.{get}
 use Rattle.ctw_ops.specs.declared.numeric.Profile.{Profile}
+use Rattle.ctw_ops.specs.Tree.{under}
 use Rattle.ctw_ops.specs.Erasure.{erase_module}
 use Rattle.ctw_ops.specs.Limits.{most_steps}
 use Rattle.ctw_script.specs.declared.moves.Move.{Move}
@@ -17,12 +19,14 @@ use Rattle.ctw_moves.specs.Runs.{plays}
 use Rattle.ctw_moves.specs.LaunchedStates.{Launch, Ready, Faulty, launch}
 use Rattle.ctw_inputs.specs.declared.said.Status.TheVariants.{Done, Refused, Usage}
 use Rattle.ctw_inputs.specs.Outcome.{Execution, Outcome, ends}
-use Rattle.ctw_inputs.specs.Inputs.{NamedFile, module_limit, modules_limit, script_limit, vault_limit, refuses, load, load_modules, on_text, on_moves, read, read_valid, linked}
+use Rattle.ctw_inputs.specs.Inputs.{NamedFile, module_limit, modules_limit, script_limit, marks_limit, vault_limit, refuses, load, load_modules, on_text, on_moves, read, read_valid, linked}
 use Rattle.ctw_inputs.specs.Settling.{Reads}
 use Rattle.ctwasm_top.specs.Lines.{linked_line, launch_line, told_lines}
 use Rattle.ctwasm_top.specs.Usage.{usage_text}
 use Rattle.ctwasm_top.specs.SessionWords.{OnceWords, RunWords, same_in_once, same_in_run}
-use Rattle.ctwasm_top.specs.Words.{Command, Check, Canon, Text, Strip, Link, Run, Once, command_of}
+use Rattle.ctwasm_top.specs.Words.{Command, Check, Canon, Text, Infer, Strip, Link, Run, Once, command_of}
+use Rattle.ctwasm_top.specs.Inference.{Found, inferred, IsFound}
+use Rattle.ctwasm_top.specs.Marked.{HoldsMarked}
 
 -- ---- the commands `check`, `canon`, `text`, `strip` and `link`
 
@@ -41,6 +45,14 @@ stripped profile file bytes = read_valid profile file bytes (λ m. ends Done (ca
 
 abbrev pub matched : Profile → List NamedFile → List (List ℕ) → Outcome
 matched profile parts contents = linked profile parts contents (λ set. ends Done (linked_line (length set)))
+
+-- ---- the command `infer`
+
+abbrev pub infer_answer : Files → Found → Profile → List ℕ → List ℕ → Outcome
+infer_answer files found profile file marks_file =
+    load files file module_limit
+    (λ bytes. load files marks_file marks_limit
+    (λ marks. on_text marks_file marks (λ text. read_valid profile file bytes (inferred found))))
 
 -- ---- the commands `run` and `once`
 
@@ -92,22 +104,23 @@ run_answer files profile reading w =
 
 -- ---- all commands
 
-abbrev pub command_answer : Files → Result (List Move) ScriptFault → Command → Outcome
-command_answer files reading (Check profile file) = load files file module_limit (checked profile file)
-command_answer files reading (Canon file) = load files file module_limit (spelled file)
-command_answer files reading (Text profile file) = load files file module_limit (printed profile file)
-command_answer files reading (Strip profile file) = load files file module_limit (stripped profile file)
-command_answer files reading (Link profile parts) = load_modules files modules_limit parts (matched profile parts)
-command_answer files reading (Run profile w) = run_answer files profile reading w
-command_answer files reading (Once profile w) = once_answer files profile w
+abbrev pub command_answer : Files → Result (List Move) ScriptFault → Found → Command → Outcome
+command_answer files reading found (Check profile file) = load files file module_limit (checked profile file)
+command_answer files reading found (Canon file) = load files file module_limit (spelled file)
+command_answer files reading found (Text profile file) = load files file module_limit (printed profile file)
+command_answer files reading found (Infer profile file marks) = infer_answer files found profile file marks
+command_answer files reading found (Strip profile file) = load files file module_limit (stripped profile file)
+command_answer files reading found (Link profile parts) = load_modules files modules_limit parts (matched profile parts)
+command_answer files reading found (Run profile w) = run_answer files profile reading w
+command_answer files reading found (Once profile w) = once_answer files profile w
 
-abbrev pub on_words : Files → Result (List Move) ScriptFault → Option Command → Outcome
-on_words files reading None = ends Usage usage_text
-on_words files reading (Some command) = command_answer files reading command
+abbrev pub on_words : Files → Result (List Move) ScriptFault → Found → Option Command → Outcome
+on_words files reading found None = ends Usage usage_text
+on_words files reading found (Some command) = command_answer files reading found command
 
--- what the words give over these files
-unfoldable pub answer : List (List ℕ) → Files → Result (List Move) ScriptFault → Outcome
-answer words files reading = on_words files reading (command_of words)
+-- what the words give over these files, where the script that they name has this reading and the marks this finding
+unfoldable pub answer : List (List ℕ) → Files → Result (List Move) ScriptFault → Found → Outcome
+answer words files reading found = on_words files reading found (command_of words)
 
 -- the reading of the script that a command names, where it is there, short enough, and a text; there is one at most
 abbrev pub ReadsScript : Option Command → Files → Result (List Move) ScriptFault → Type 0
@@ -116,10 +129,17 @@ ReadsScript (Some (Run profile w)) files reading =
     → Reads text reading
 ReadsScript command files reading = Unit {0}
 
+-- The finding on the marks that a command names: the files are there and within limits, the module is valid and plain,
+-- and the marks are a text.
+abbrev pub FindsMarks : Option Command → Files → Found → Type 0
+FindsMarks (Some (Infer profile file marks)) files found =
+    (h : HoldsMarked files profile file marks) → IsFound (under profile h.tree) h.text found
+FindsMarks command files found = Unit {0}
+
 -- what an execution released; nothing where there is none
 abbrev pub released_in : Option Execution → List ℕ
 released_in None = []
 released_in (Some e) = (plays e.set e.state e.moves).releases
 
-abbrev pub releases : List (List ℕ) → Files → Result (List Move) ScriptFault → List ℕ
-releases words files reading = released_in (answer words files reading).execution
+abbrev pub releases : List (List ℕ) → Files → Result (List Move) ScriptFault → Found → List ℕ
+releases words files reading found = released_in (answer words files reading found).execution

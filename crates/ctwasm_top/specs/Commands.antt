@@ -1,5 +1,4 @@
 -- What a command that was read stands for.
-use Rattle.ctw_inputs.specs.Parts.{part_named}
 use Rattle.ctwasm_top.specs.declared.words.Command.{Command}
 use Rattle.ctwasm_top.specs.declared.words.Command.TheVariants as read
 use Rattle.ctwasm_top.specs.Words as words
@@ -8,6 +7,7 @@ abbrev pub command_in : Command → words.Command
 command_in (read.Check profile file) = words.Check profile file.now
 command_in (read.Canon file) = words.Canon file.now
 command_in (read.Text profile file) = words.Text profile file.now
+command_in (read.Infer profile file marks) = words.Infer profile file.now marks.now
 command_in (read.Strip profile file) = words.Strip profile file.now
 command_in (read.Link profile parts) = words.Link profile parts
 command_in (read.Run profile run) = words.Run profile run

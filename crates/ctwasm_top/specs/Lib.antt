@@ -4,7 +4,10 @@ pub mod SessionWords
 pub mod Words
 pub mod Commands
 pub mod Lines
+pub mod Marked
+pub mod Inference
 pub mod Answer
+pub mod Findings
 pub mod Headline
 pub mod Sessions
 pub mod ValidCalls

@@ -1,5 +1,5 @@
 -- What starting a session and making its moves answers.
-use Rattle.std.specs.Prelude.{◌≡◌, ◌≤◌, ℕ, List, [], ◌∷◌, map, length, Option, Result, Ok, Err}
+use Rattle.std.specs.Prelude.{◌≡◌, ◌≤◌, ℕ, List, [], ◌∷◌, length, Option, Result, Ok, Err}
 use Rattle.ctw_io.specs.Files.{Files}
 use Rattle.ctw_io.specs.Taken.{grown, TookPrefix}
 use Rattle.ctw_ops.specs.declared.numeric.Profile.{Profile}

@@ -11,6 +11,10 @@ use Rattle.ctw_ops.specs.Limits.{most_plain_bytes}
 use Rattle.ctw_ops.specs.Erasure.{erase_module}
 use Rattle.ctw_ops.specs.WithinLimits.{IsOctet}
 use Rattle.ctw_form.specs.Spelled.{Spells}
+use Rattle.ctw_labels.specs.SitedModule.{sites}
+use Rattle.ctw_labels.specs.Kept.{IsKept}
+use Rattle.ctw_sites.specs.Packed.{most_sites}
+use Rattle.ctw_marks.specs.Readings.{MarkList, HasReading}
 use Rattle.ctw_text.specs.Denotes.{assembled}
 use Rattle.ctw_link.specs.Sets.{ModuleSet}
 use Rattle.ctw_link.specs.Matching.{AreMatching}
@@ -20,8 +24,9 @@ use Rattle.ctw_moves.specs.LaunchedStates.{Ready, launch}
 use Rattle.ctw_inputs.specs.Inputs.{NamedFile, module_limit, modules_limit, script_limit, vault_limit}
 use Rattle.ctw_inputs.specs.Settling.{Reads}
 use Rattle.ctwasm_top.specs.SessionWords.{same_in_once, same_in_run}
-use Rattle.ctwasm_top.specs.Words.{Command, Check, Canon, Text, Strip, Link, Run, Once}
+use Rattle.ctwasm_top.specs.Words.{Command, Check, Canon, Text, Infer, Strip, Link, Run, Once}
 use Rattle.ctwasm_top.specs.Answer.{once_part}
+use Rattle.ctwasm_top.specs.Marked.{HoldsMarked}
 
 -- the file is there, within its limit, and its bytes spell a module that is valid under the profile
 pub record HoldsValid (files : Files) (profile : Profile) (name : List ℕ) : Type 0 where
@@ -39,6 +44,16 @@ pub record HoldsModule (files : Files) (name : List ℕ) : Type 0 where
   pub short : length bytes ≤ module_limit
   pub tree : Module Label
   pub spelled : Spells bytes tree
+
+-- ---- marks
+
+-- the files hold a plain module with no more sites than it may have, and marks of it that keep trust
+pub record HoldsInference (files : Files) (profile : Profile) (name marks : List ℕ) : Type 0 where
+  pub held : HoldsMarked files profile name marks
+  pub few : length (sites (under profile held.tree)) ≤ most_sites
+  pub marks_of : MarkList
+  pub read : HasReading (under profile held.tree) held.text marks_of
+  pub kept : IsKept (under profile held.tree) marks_of.points
 
 -- ---- sets
 
@@ -89,6 +104,7 @@ HoldsInputs files None = ⊥
 HoldsInputs files (Some (Check profile name)) = HoldsValid files profile name
 HoldsInputs files (Some (Canon name)) = HoldsModule files name
 HoldsInputs files (Some (Text profile name)) = HoldsValid files profile name
+HoldsInputs files (Some (Infer profile name marks)) = HoldsInference files profile name marks
 HoldsInputs files (Some (Strip profile name)) = HoldsValid files profile name
 HoldsInputs files (Some (Link profile parts)) = HoldsSet files profile parts
 HoldsInputs files (Some (Run profile w)) =

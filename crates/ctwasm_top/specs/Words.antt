@@ -6,12 +6,13 @@ use Rattle.ctw_ops.specs.declared.numeric.Profile.TheVariants.{Divide, Multiply}
 use Rattle.ctw_inputs.specs.Inputs.{NamedFile}
 use Rattle.ctwasm_top.specs.SessionWords.{OnceWords, RunWords, once_words, run_words, part_words, same_in_once, same_in_run}
 
--- The commands with their files: `check M`, `canon M`, `text M`, `strip M`, `link NAME=M..`,
+-- The commands with their files: `check M`, `canon M`, `text M`, `infer M MARKS`, `strip M`, `link NAME=M..`,
 -- `run SCRIPT VAULT SEALED NAME=M..` and `once M VAULT SEALED EXPORT ARG..`, and the profile of their modules.
 pub data Command : Type 0 where
   Check : (profile : Profile) (module_file : List ℕ) → Command
   Canon : (module_file : List ℕ) → Command
   Text : (profile : Profile) (module_file : List ℕ) → Command
+  Infer : (profile : Profile) (module_file marks_file : List ℕ) → Command
   Strip : (profile : Profile) (module_file : List ℕ) → Command
   Link : (profile : Profile) (parts : List NamedFile) → Command
   Run : (profile : Profile) (words : RunWords) → Command
@@ -21,6 +22,11 @@ pub data Command : Type 0 where
 abbrev pub file_words : List ℕ → List (List ℕ) → Option (List ℕ)
 file_words name (command ∷ file ∷ []) = if bytes_eq command name then Some file else None
 file_words name words = None
+
+-- the two words behind `infer`
+abbrev pub infer_words : List (List ℕ) → Option (List ℕ × List ℕ)
+infer_words (command ∷ file ∷ marks ∷ []) = if bytes_eq command (codes "infer") then Some (file, marks) else None
+infer_words words = None
 
 -- the words behind `link`
 abbrev pub link_words : List (List ℕ) → Option (List NamedFile)
@@ -36,9 +42,10 @@ abbrev pub profiled_command : Profile → List (List ℕ) → Option Command
 profiled_command profile words =
     or_command (option_map (Check profile) (file_words (codes "check") words))
     (or_command (option_map (Text profile) (file_words (codes "text") words))
+    (or_command (option_map (λ files. Infer profile files.0 files.1) (infer_words words))
     (or_command (option_map (Strip profile) (file_words (codes "strip") words))
     (or_command (option_map (Link profile) (link_words words))
-    (or_command (option_map (Run profile) (run_words words)) (option_map (Once profile) (once_words words))))))
+    (or_command (option_map (Run profile) (run_words words)) (option_map (Once profile) (once_words words)))))))
 
 -- such a command behind the word `mul`
 abbrev pub mul_command : List (List ℕ) → Option Command
@@ -69,5 +76,6 @@ LoadsFiles (Some (Once profile w)) = same_in_once w ≡ None
 LoadsFiles (Some (Check profile file)) = Unit {0}
 LoadsFiles (Some (Canon file)) = Unit {0}
 LoadsFiles (Some (Text profile file)) = Unit {0}
+LoadsFiles (Some (Infer profile file marks)) = Unit {0}
 LoadsFiles (Some (Strip profile file)) = Unit {0}
 LoadsFiles (Some (Link profile parts)) = Unit {0}

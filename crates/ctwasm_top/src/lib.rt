@@ -2,6 +2,7 @@
 #![tactic(auto)]
 
 mod commands;
+mod inferring;
 mod lines;
 mod running;
 mod saying;
@@ -10,6 +11,8 @@ mod words;
 
 ghost use Rattle.std.specs.Prelude.{◌≡◌, ◌≢◌, [], List, Result, ℕ, map, string_bytes, Some, None, All};
 ghost use Rattle.ctw_io.specs.Files.{Files};
+ghost use Rattle.ctw_ops.specs.declared.numeric.Profile.{Profile};
+ghost use Rattle.ctw_ops.specs.Tree.{under};
 ghost use Rattle.ctw_script.specs.declared.moves.Move.{Move};
 ghost use Rattle.ctw_script.specs.declared.script.ScriptFault.{ScriptFault};
 ghost use Rattle.ctw_semantics.specs.Sound.{AllUntrusted};
@@ -22,14 +25,17 @@ ghost use Rattle.ctw_moves.specs.SeenStates.{Agree, seen_run};
 ghost use Rattle.ctw_inputs.specs.declared.said.Status.TheVariants.{Done, Refused, Usage};
 ghost use Rattle.ctw_inputs.specs.Outcome.{Execution, ends};
 ghost use Rattle.ctwasm_top.specs.Usage.{usage_text};
-ghost use Rattle.ctwasm_top.specs.Words.{command_of, vault_word};
+ghost use Rattle.ctwasm_top.specs.Words.{Infer, command_of, vault_word};
+ghost use Rattle.ctwasm_top.specs.Inference.{Found, IsPlacedUntrusted};
+ghost use Rattle.ctwasm_top.specs.Marked.{HoldsMarked};
 ghost use Rattle.ctwasm_top.specs.Answer.{answer, releases, ReadsScript};
-ghost use Rattle.ctwasm_top.specs.Headline.{Did, DidTold, HasCauses, AreOctets, OtherVault, SameOutcome, RunsStripped};
+ghost use Rattle.ctwasm_top.specs.Headline.{Did, DidFound, DidInfer, HasCauses, IsAnswer, AreOctets, OtherVault, SameOutcome, ExecutesUntrusted, RunsStripped};
 ghost use Rattle.ctwasm_top.specs.ValidCalls.{HoldsInputs, WritesModule};
 
 use commands::{canon_file, check_file, link_files, strip_file, text_file};
 pub use ctw_inputs::Status;
 use ctw_io::{Shelf, Sink};
+use inferring::infer_file;
 use running::{once, run};
 use saying::{say, settle};
 use std::alloc::Global;
@@ -58,7 +64,7 @@ fn dispatch<F: Shelf, K: Sink>(
 ) -> Status
     ensures did { (files : Files) (reading : Result (List Move) ScriptFault) → F.files shelf.old ≡ Some files
         → ReadsScript (command_of (map string_bytes words.now)) files reading
-        → DidTold result (answer (map string_bytes words.now) files reading) files (F.files shelf.new) (K.taken out.old)
+        → DidFound (map string_bytes words.now) reading result files (F.files shelf.new) (K.taken out.old)
         (K.taken out.new) }
     ensures read { (files : Files) → F.files shelf.old ≡ Some files → result ≡ Done
         → (reading : Result (List Move) ScriptFault) × ReadsScript (command_of (map string_bytes words.now)) files reading }
@@ -76,6 +82,9 @@ fn dispatch<F: Shelf, K: Sink>(
         Some(Command::Text(profile, file)) => {
             settle(out, text_file(alloc, profile, file, shelf))
         }
+        Some(Command::Infer(profile, file, marks)) => {
+            settle(out, infer_file(alloc, profile, file, marks, shelf))
+        }
         Some(Command::Strip(profile, file)) => {
             settle(out, strip_file(alloc, profile, file, shelf))
         }
@@ -89,8 +98,8 @@ fn dispatch<F: Shelf, K: Sink>(
 
 /// Does what the words after the program's name say, over these files and this place for text.
 ///
-/// For now it has the commands `check M`, `canon M`, `text M`, `strip M`, `link NAME=M..`, `run SCRIPT VAULT SEALED NAME=M..` and
-/// `once M VAULT SEALED EXPORT ARG..`. Before all but `canon` the word `mul` may stand, under which multiplications leak
+/// For now it has the commands `check M`, `canon M`, `text M`, `infer M MARKS`, `strip M`, `link NAME=M..`,
+/// `run SCRIPT VAULT SEALED NAME=M..` and `once M VAULT SEALED EXPORT ARG..`. Before all but `canon` the word `mul` may stand, under which multiplications leak
 /// as divisions do. All other words are a wrong use, whose text is written. The text of each move is written before the
 /// next is made, every text before a file is saved, and files are saved in the last place.
 pub fn ctwasm<F: Shelf, K: Sink>(
@@ -101,9 +110,10 @@ pub fn ctwasm<F: Shelf, K: Sink>(
 ) -> Status
     // What was written and saved and the status are those of the answer, or a fault says how far it came. The answer goes
     // by the reading of the script that the words name: there is one at most, and there is one where the work is done.
+    // And it goes by a finding on the marks that they name.
     ensures did { (files : Files) (reading : Result (List Move) ScriptFault) → F.files shelf.old ≡ Some files
         → ReadsScript (command_of (map string_bytes words.now)) files reading
-        → DidTold result (answer (map string_bytes words.now) files reading) files (F.files shelf.new) (K.taken out.old)
+        → DidFound (map string_bytes words.now) reading result files (F.files shelf.new) (K.taken out.old)
         (K.taken out.new) }
     ensures read { (files : Files) → F.files shelf.old ≡ Some files → result ≡ Done
         → (reading : Result (List Move) ScriptFault) × ReadsScript (command_of (map string_bytes words.now)) files reading }
@@ -118,29 +128,47 @@ pub fn ctwasm<F: Shelf, K: Sink>(
 
     // `canon` writes bytes that spell the file's module, `text` a text that denotes it, and `strip` bytes that spell the
     // erased module, if they aren't longer than a plain module's file may be.
-    ensures written { (files : Files) (reading : Result (List Move) ScriptFault) → F.files shelf.old ≡ Some files
-        → ReadsScript (command_of (map string_bytes words.now)) files reading → result ≡ Done
+    ensures written { (files : Files) (reading : Result (List Move) ScriptFault) (found : Found)
+        → (answer (map string_bytes words.now) files reading found).status ≡ Done
         → WritesModule files (command_of (map string_bytes words.now))
-        (answer (map string_bytes words.now) files reading).out }
+        (answer (map string_bytes words.now) files reading found).out }
+
+    // `infer` writes the placed module of the least labelling exactly where one fits the marks, the lines of a least flow
+    // exactly where trust is kept and none fits, and else a refusal. Erasing the placed module gives the file's.
+    ensures inference { (files : Files) (profile : Profile) (file marks : List ℕ) → F.files shelf.old ≡ Some files
+        → command_of (map string_bytes words.now) ≡ Some (Infer profile file marks) → IsAnswer result
+        → (h : HoldsMarked files profile file marks)
+        → DidInfer (under profile h.tree) h.text result (K.taken out.old) (K.taken out.new) }
 
     // The two vaults: other bytes in VAULT, as many, by which the same is released, give the same bytes for out, the
     // same status and as many bytes to save.
-    ensures hidden { (files others : Files) (reading : Result (List Move) ScriptFault) (vault : List ℕ)
+    ensures hidden { (files others : Files) (reading : Result (List Move) ScriptFault) (found : Found) (vault : List ℕ)
         → vault_word (map string_bytes words.now) ≡ Some vault → OtherVault vault files others
-        → releases (map string_bytes words.now) others reading ≡ releases (map string_bytes words.now) files reading
-        → SameOutcome (answer (map string_bytes words.now) others reading)
-        (answer (map string_bytes words.now) files reading) }
+        → releases (map string_bytes words.now) others reading found
+        ≡ releases (map string_bytes words.now) files reading found
+        → SameOutcome (answer (map string_bytes words.now) others reading found)
+        (answer (map string_bytes words.now) files reading found) }
     // From agreeing states, and with equal releases, every list of moves tells the same and leaves agreeing states.
     ensures lists { (set : ModuleSet) (s t : State) (moves : List Move) → Agree s t
         → (plays set s moves).releases ≡ (plays set t moves).releases
         → seen_run (plays set s moves) ≡ seen_run (plays set t moves) }
     // Without trusted functions nothing is released.
-    ensures untrusted { (files : Files) (reading : Result (List Move) ScriptFault) (e : Execution) → AreOctets files
-        → (answer (map string_bytes words.now) files reading).execution ≡ Some e → All HasBytes e.moves
+    ensures untrusted { (files : Files) (reading : Result (List Move) ScriptFault) (found : Found) (e : Execution)
+        → AreOctets files → (answer (map string_bytes words.now) files reading found).execution ≡ Some e → All HasBytes e.moves
         → AllUntrusted (set_instances e.set) → (plays e.set e.state e.moves).releases ≡ [] }
+    // Modules that are inferred without trust have no trusted function. So where the parts that are executed are such
+    // ones, the answer keeps every secret, as `hidden` says, for every two vaults of one length.
+    ensures placed { (set : ModuleSet) → All (λ p. IsPlacedUntrusted p.tree) set → AllUntrusted (set_instances set) }
+    ensures keeps { (files others : Files) (reading : Result (List Move) ScriptFault) (found : Found) (vault : List ℕ)
+        → AreOctets files → AreOctets others
+        → vault_word (map string_bytes words.now) ≡ Some vault → OtherVault vault files others
+        → ExecutesUntrusted (answer (map string_bytes words.now) files reading found).execution
+        → ExecutesUntrusted (answer (map string_bytes words.now) others reading found).execution
+        → SameOutcome (answer (map string_bytes words.now) others reading found)
+        (answer (map string_bytes words.now) files reading found) }
     // What is executed does the same when it is stripped.
-    ensures stripped { (files : Files) (reading : Result (List Move) ScriptFault) (e : Execution) → AreOctets files
-        → (answer (map string_bytes words.now) files reading).execution ≡ Some e → All HasBytes e.moves
+    ensures stripped { (files : Files) (reading : Result (List Move) ScriptFault) (found : Found) (e : Execution)
+        → AreOctets files → (answer (map string_bytes words.now) files reading found).execution ≡ Some e → All HasBytes e.moves
         → RunsStripped e }
 
     // Told or not: wrong words are a wrong use, which reads no file.

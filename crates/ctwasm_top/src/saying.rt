@@ -6,7 +6,7 @@ ghost use Rattle.ctw_inputs.specs.declared.said.Status.TheVariants.{Done, Usage,
 ghost use Rattle.ctw_inputs.specs.declared.said.Stop.TheVariants as stop;
 ghost use Rattle.ctw_inputs.specs.Outcome.{Outcome, ends};
 ghost use Rattle.ctw_inputs.specs.Settling.{IsRefusal, SaysSo};
-ghost use Rattle.ctwasm_top.specs.Headline.{Did, IsAnswer};
+ghost use Rattle.ctwasm_top.specs.Headline.{Did, IsAnswer, WroteNothing, SaysNothing};
 
 use ctw_inputs::{Said, Status, Stop};
 use ctw_io::{Fault, Sink, send};
@@ -35,6 +35,7 @@ pub fn settle<K: Sink>(out: &mut K, said: Result<Said, Stop>) -> Status
     ensures write { result ≡ WriteFault → Rose (K.faults out.old) (K.faults out.new) }
     ensures quiet { (result ≢ SaveFault) × (result ≢ Usage) }
     ensures refuses { result ≡ Done → IfErr said IsRefusal → IsOk said }
+    ensures want { SaysNothing said → WroteNothing result (K.taken out.old) (K.taken out.new) }
 {
     match said {
         Ok(said) | Err(Stop::Says(said)) => say(out, said.text(), said.status()),

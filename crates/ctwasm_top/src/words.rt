@@ -6,7 +6,7 @@ ghost use Rattle.ctw_script.specs.MoveValues.{argument_value};
 ghost use Rattle.ctw_inputs.specs.Parts.{part_named};
 ghost use Rattle.ctwasm_top.specs.NamedFiles.{named_file, named_files};
 ghost use Rattle.ctwasm_top.specs.SessionWords.{arguments_of, part_words, run_words, once_words, same_in_run, same_in_once};
-ghost use Rattle.ctwasm_top.specs.Words.{file_words, link_words, profiled_command, mul_command, command_of};
+ghost use Rattle.ctwasm_top.specs.Words.{file_words, infer_words, link_words, profiled_command, mul_command, command_of};
 ghost use Rattle.ctwasm_top.specs.Commands.{command_in};
 
 use ctw_inputs::PartFile;
@@ -314,6 +314,8 @@ pub enum Command<'a> {
     Canon(&'a str),
     /// `text M`, under a profile.
     Text(Profile, &'a str),
+    /// `infer M MARKS`, under a profile.
+    Infer(Profile, &'a str, &'a str),
     /// `strip M`, under a profile.
     Strip(Profile, &'a str),
     /// `link NAME=M..`, under a profile.
@@ -337,6 +339,19 @@ fn file_word<'a>(name: &str, words: &'a [String]) -> Option<&'a str>
     Some(file.as_str())
 }
 
+/// The two words behind `infer`; None where the words have another form.
+fn infer_words(words: &[String]) -> Option<(&str, &str)>
+    ensures { option_map (λ files. (files.0.now, files.1.now)) result ≡ infer_words (map string_bytes words.now) }
+{
+    let [command, file, marks] = words else {
+        return None;
+    };
+    if command.as_str() != "infer" {
+        return None;
+    }
+    Some((file.as_str(), marks.as_str()))
+}
+
 /// The command to which a profile matters; None where the words have the form of none.
 fn profiled_command(profile: Profile, words: &[String]) -> Option<Command<'_>>
     ensures { option_map command_in result ≡ profiled_command profile (map string_bytes words.now) }
@@ -346,6 +361,9 @@ fn profiled_command(profile: Profile, words: &[String]) -> Option<Command<'_>>
     }
     if let Some(file) = file_word("text", words) {
         return Some(Command::Text(profile, file));
+    }
+    if let Some((file, marks)) = infer_words(words) {
+        return Some(Command::Infer(profile, file, marks));
     }
     if let Some(file) = file_word("strip", words) {
         return Some(Command::Strip(profile, file));

@@ -1,4 +1,4 @@
-use Rattle.std.proofs.Common.{◌≤◌, arith, List, [], ◌∷◌, option_map, refl, sym, ap, ◌∙◌, subst}
+use Rattle.std.proofs.Common.{◌≤◌, arith, [], ◌∷◌, option_map, refl, sym, ap, ◌∙◌, subst}
 use Rattle.std.proofs.lemmas.Result.{err_from_is_err_and}
 use Rattle.ctw_inputs.specs.Inputs.{vault_limit}
 use Rattle.ctw_inputs.specs.Parts.{contents}

@@ -1,4 +1,4 @@
-use Rattle.std.proofs.Common.{List, ◌∷◌, [], inr, refl, ap, sym, ◌∙◌, subst}
+use Rattle.std.proofs.Common.{List, inr, refl, ap, ◌∙◌, subst}
 use Rattle.ctw_io.proofs.Taking.{took_none}
 use Rattle.ctw_script.specs.declared.moves.Move.{Move}
 use Rattle.ctw_link.specs.Sets.{set_of}

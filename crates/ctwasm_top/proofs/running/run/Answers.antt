@@ -1,7 +1,6 @@
-use Rattle.std.proofs.Common.{[], ◌≡◌, ◌≤◌, arith, List, ℕ, length, Ok, ap, sym, ◌∙◌, subst}
+use Rattle.std.proofs.Common.{[], ◌≡◌, ◌≤◌, arith, List, ℕ, length, Ok, ap, ◌∙◌, subst}
 use Rattle.ctw_link.specs.Sets.{set_of}
 use Rattle.ctw_moves.specs.Runs.{plays}
-use Rattle.ctw_inputs.specs.Parts.{names}
 use Rattle.ctw_inputs.specs.Settling.{Reads}
 use Rattle.ctw_inputs.specs.declared.said.Status.TheVariants.{Refused}
 use Rattle.ctw_inputs.specs.Outcome.{ends}

@@ -1,0 +1,51 @@
+-- What the steps of `infer` say, by findings that are so.
+use Rattle.std.specs.Prelude.{◌≡◌, ℕ, false, List, true, Some, Result, Ok, Err}
+use Rattle.std.specs.Str.{is_utf8}
+use Rattle.ctw_io.specs.Files.{Files}
+use Rattle.ctw_ops.specs.declared.types.Label.{Label}
+use Rattle.ctw_ops.specs.declared.numeric.Profile.{Profile}
+use Rattle.ctw_ops.specs.Tree.{Module, under}
+use Rattle.ctw_ops.specs.Valid.{IsValid}
+use Rattle.ctw_form.specs.Spelled.{Spells}
+use Rattle.ctw_marks.specs.Readings.{MarkList}
+use Rattle.ctw_infer.specs.declared.fault.InferFault.{InferFault}
+use Rattle.ctw_inputs.specs.Saying.{Saying}
+use Rattle.ctw_inputs.specs.declared.said.Stop.{Stop}
+use Rattle.ctw_inputs.specs.declared.said.Stop.TheVariants as stop
+use Rattle.ctw_inputs.specs.Inputs.{on_text, read_valid}
+use Rattle.ctw_inputs.specs.Settling.{SaysAll}
+use Rattle.ctwasm_top.specs.Words.{Infer}
+use Rattle.ctwasm_top.specs.Inference.{Found, LabelsModule, IsFound, on_labels, inferred}
+use Rattle.ctwasm_top.specs.Answer.{FindsMarks, infer_answer}
+
+-- something is so of what was said, unless nothing was
+abbrev pub OnSaid : Result Saying Stop → (Saying → Type 0) → Type 0
+OnSaid (Ok said) is_so = is_so said
+OnSaid (Err (stop.Says said)) is_so = is_so said
+OnSaid (Err stop.ReadFault) is_so = Unit {0}
+OnSaid (Err stop.NoMemory) is_so = Unit {0}
+
+-- this is said of a module by its marks, where the labels are those that inference finds
+pub record SaysLabels (m : Module Label) (marks : MarkList) (said : Saying) : Type 0 where
+  pub labels : Result (List Label) InferFault
+  pub labelled : LabelsModule m marks labels
+  pub says : SaysAll said (on_labels m marks labels)
+
+-- and of a module by a text of marks
+pub record SaysModule (m : Module Label) (text : List ℕ) (said : Saying) : Type 0 where
+  pub found : Found
+  pub is_so : m.ct ≡ false → IsFound m text found
+  pub says : SaysAll said (inferred found m)
+
+-- and by the bytes of a module's file and a text of marks
+pub record SaysBytes (profile : Profile) (file marks_file bytes marks : List ℕ) (said : Saying) : Type 0 where
+  pub found : Found
+  pub is_so : is_utf8 marks ≡ true → (t : Module Label) → Spells bytes t → IsValid (under profile t) → t.ct ≡ false
+      → IsFound (under profile t) marks found
+  pub says : SaysAll said (on_text marks_file marks (λ text. read_valid profile file bytes (inferred found)))
+
+-- and by the files of a module and of marks
+pub record SaysFiles (files : Files) (profile : Profile) (file marks : List ℕ) (said : Saying) : Type 0 where
+  pub found : Found
+  pub is_so : FindsMarks (Some (Infer profile file marks)) files found
+  pub says : SaysAll said (infer_answer files found profile file marks)
