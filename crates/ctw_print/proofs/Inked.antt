@@ -11,8 +11,8 @@ use Rattle.ctw_ops.specs.ValueType.{ValueType}
 use Rattle.ctw_ops.specs.Types.{FunctionType, VariableType, MemoryType, value_type}
 use Rattle.ctw_text.specs.Grammar.{bits_in}
 use Rattle.ctw_text.specs.Print.{Ink, Mark, Negative, AtOffset, Aligned, blank, num, open_, close, key, ty, quoted, quoted_byte, text_of, print_types, print_group, print_result, print_bits, print_offset, print_align, print_indexes, print_use, print_trust, print_type, print_entry, print_max, print_limits, print_table, print_memory, print_global_type, print_string}
-use Rattle.ctw_text.specs.Keys as k
-use Rattle.ctw_text.specs.Keys.{KFuncref, KMut, KSecret}
+use Rattle.ctw_text.specs.declared.keys.Key.TheVariants.{Funcref as KFuncref, Mut as KMut, Secret as KSecret}
+use Rattle.ctw_text.specs.declared.keys.Part.TheVariants as parts
 use Rattle.ctw_text.specs.Words.{word_of}
 use Rattle.ctw_print.specs.Words.{value_word}
 use Rattle.ctw_print.specs.Texts.{all_texts, spaced_number, spaced_type, string_text, params_text, locals_text, result_text, bits_text, offset_text, align_text, use_text, trust_text, type_text, entry_text, max_text, limits_text, memory_label, variable_text}
@@ -23,11 +23,11 @@ pub types_inked : (ts : List (ValueType Label)) (rest : List Ink) → text_of (p
 types_inked [] rest = refl
 types_inked (t ∷ ts) rest = let h = types_inked ts rest in simp (value_is t, h, append_assoc)
 
-pub params_inked : (ts : List (ValueType Label)) (rest : List Ink) → text_of (print_group k.Param ts rest) ≡ params_text ts ++ text_of rest
+pub params_inked : (ts : List (ValueType Label)) (rest : List Ink) → text_of (print_group parts.Param ts rest) ≡ params_text ts ++ text_of rest
 params_inked [] rest = refl
 params_inked (t ∷ ts) rest = let h = types_inked ts (close ∷ rest) in simp (param_word, value_is t, h, append_assoc)
 
-pub locals_inked : (ts : List (ValueType Label)) (rest : List Ink) → text_of (print_group k.Local ts rest) ≡ locals_text ts ++ text_of rest
+pub locals_inked : (ts : List (ValueType Label)) (rest : List Ink) → text_of (print_group parts.Local ts rest) ≡ locals_text ts ++ text_of rest
 locals_inked [] rest = refl
 locals_inked (t ∷ ts) rest = let h = types_inked ts (close ∷ rest) in simp (local_word, value_is t, h, append_assoc)
 
@@ -86,7 +86,7 @@ trust_inked Trusted rest = simp trusted_word
 pub type_inked : (t : FunctionType Label) (rest : List Ink) → text_of (print_type t rest) ≡ type_text t ++ text_of rest
 type_inked t rest =
     let results = print_result t.result (close ∷ rest) in
-    let a = trust_inked t.trust (print_group k.Param t.params results) in
+    let a = trust_inked t.trust (print_group parts.Param t.params results) in
     let b = params_inked t.params results in
     let c = result_inked t.result (close ∷ rest) in
     simp (func_word, a, b, c, append_assoc)

@@ -8,8 +8,10 @@ use Rattle.ctw_ops.specs.ValueType.{ValueType}
 use Rattle.ctw_ops.specs.Types.{value_type}
 use Rattle.ctw_ops.specs.Code as ops
 use Rattle.ctw_ops.specs.Code.{Leaf, Code, Op, Plain, Opens, Closes, Shape, OfBlock, OfLoop, OfIf, ByEnd, ByElse, onto, opcodes}
-use Rattle.ctw_text.specs.Keys as k
-use Rattle.ctw_text.specs.Keys.{Indexed, KOp, KElse, KEnd, KShape}
+use Rattle.ctw_text.specs.declared.keys.Indexed.{Indexed}
+use Rattle.ctw_text.specs.declared.keys.Key.TheVariants.{Op as KOp, Else as KElse, End as KEnd, Shape as KShape}
+use Rattle.ctw_text.specs.declared.keys.Form.TheVariants as forms
+use Rattle.ctw_text.specs.declared.keys.Indexed.TheVariants as uses
 use Rattle.ctw_text.specs.Words.{word_of}
 use Rattle.ctw_text.specs.Print.{Ink, blank, num, line4, key, natural, text_of, print_result, print_offset, print_align, print_indexed, print_leaf, print_code}
 use Rattle.ctw_print.specs.Words.{value_word, select_word, load_end, store_end}
@@ -23,80 +25,80 @@ use Rattle.ctw_print.proofs.Inked.{result_inked, bits_inked, offset_inked, align
 -- ---- words with nothing or a number behind them
 
 abbrev pub indexed_word : Indexed → List ℕ
-indexed_word k.Br = codes "br"
-indexed_word k.BrIf = codes "br_if"
-indexed_word k.Call = codes "call"
-indexed_word k.LocalGet = codes "local.get"
-indexed_word k.LocalSet = codes "local.set"
-indexed_word k.LocalTee = codes "local.tee"
-indexed_word k.GlobalGet = codes "global.get"
-indexed_word k.GlobalSet = codes "global.set"
+indexed_word uses.Br = codes "br"
+indexed_word uses.BrIf = codes "br_if"
+indexed_word uses.Call = codes "call"
+indexed_word uses.LocalGet = codes "local.get"
+indexed_word uses.LocalSet = codes "local.set"
+indexed_word uses.LocalTee = codes "local.tee"
+indexed_word uses.GlobalGet = codes "global.get"
+indexed_word uses.GlobalSet = codes "global.set"
 
-indexed_is : (op : Indexed) → word_of (KOp (k.Uses op)) ≡ indexed_word op
+indexed_is : (op : Indexed) → word_of (KOp (forms.Uses op)) ≡ indexed_word op
 unfolding word_of
-indexed_is k.Br = refl
-indexed_is k.BrIf = refl
-indexed_is k.Call = refl
-indexed_is k.LocalGet = refl
-indexed_is k.LocalSet = refl
-indexed_is k.LocalTee = refl
-indexed_is k.GlobalGet = refl
-indexed_is k.GlobalSet = refl
+indexed_is uses.Br = refl
+indexed_is uses.BrIf = refl
+indexed_is uses.Call = refl
+indexed_is uses.LocalGet = refl
+indexed_is uses.LocalSet = refl
+indexed_is uses.LocalTee = refl
+indexed_is uses.GlobalGet = refl
+indexed_is uses.GlobalSet = refl
 
 pub indexed_inked : (op : Indexed) (n : ℕ) (rest : List Ink) → text_of (print_indexed op n rest) ≡ indexed_word op ++ (32 ∷ (decimal n ++ text_of rest))
 indexed_inked op n rest = ap (λ (w : List ℕ). w ++ (32 ∷ (decimal n ++ text_of rest))) (indexed_is op)
 
-table_word : word_of (KOp k.BrTable) ≡ codes "br_table"
+table_word : word_of (KOp forms.BrTable) ≡ codes "br_table"
 unfolding word_of
 table_word = refl
 
-indirect_word : word_of (KOp k.CallIndirect) ≡ codes "call_indirect"
+indirect_word : word_of (KOp forms.CallIndirect) ≡ codes "call_indirect"
 unfolding word_of
 indirect_word = refl
 
-const_is : (w : Width) (l : Label) → word_of (KOp (k.Const w l)) ≡ value_word (value_type w l) ++ codes ".const"
+const_is : (w : Width) (l : Label) → word_of (KOp (forms.Const w l)) ≡ value_word (value_type w l) ++ codes ".const"
 unfolding word_of
 const_is W32 Public = refl
 const_is W32 Secret = refl
 const_is W64 Public = refl
 const_is W64 Secret = refl
 
-select_is : (l : Label) → word_of (KOp (k.Bare (ops.Select l))) ≡ select_word l
+select_is : (l : Label) → word_of (KOp (forms.Bare (ops.Select l))) ≡ select_word l
 unfolding word_of
 select_is Public = refl
 select_is Secret = refl
 
-classify_is : (w : Width) → word_of (KOp (k.Bare (ops.Classify w))) ≡ value_word (value_type w Public) ++ codes ".classify"
+classify_is : (w : Width) → word_of (KOp (forms.Bare (ops.Classify w))) ≡ value_word (value_type w Public) ++ codes ".classify"
 unfolding word_of
 classify_is W32 = refl
 classify_is W64 = refl
 
-declassify_is : (w : Width) → word_of (KOp (k.Bare (ops.Declassify w))) ≡ value_word (value_type w Secret) ++ codes ".declassify"
+declassify_is : (w : Width) → word_of (KOp (forms.Bare (ops.Declassify w))) ≡ value_word (value_type w Secret) ++ codes ".declassify"
 unfolding word_of
 declassify_is W32 = refl
 declassify_is W64 = refl
 
-unreachable_word : word_of (KOp (k.Bare ops.Unreachable)) ≡ codes "unreachable"
+unreachable_word : word_of (KOp (forms.Bare ops.Unreachable)) ≡ codes "unreachable"
 unfolding word_of
 unreachable_word = refl
 
-nop_word : word_of (KOp (k.Bare ops.Nop)) ≡ codes "nop"
+nop_word : word_of (KOp (forms.Bare ops.Nop)) ≡ codes "nop"
 unfolding word_of
 nop_word = refl
 
-return_word : word_of (KOp (k.Bare ops.Return)) ≡ codes "return"
+return_word : word_of (KOp (forms.Bare ops.Return)) ≡ codes "return"
 unfolding word_of
 return_word = refl
 
-drop_word : word_of (KOp (k.Bare ops.Drop)) ≡ codes "drop"
+drop_word : word_of (KOp (forms.Bare ops.Drop)) ≡ codes "drop"
 unfolding word_of
 drop_word = refl
 
-size_word : word_of (KOp (k.Bare ops.MemorySize)) ≡ codes "memory.size"
+size_word : word_of (KOp (forms.Bare ops.MemorySize)) ≡ codes "memory.size"
 unfolding word_of
 size_word = refl
 
-grow_word : word_of (KOp (k.Bare ops.MemoryGrow)) ≡ codes "memory.grow"
+grow_word : word_of (KOp (forms.Bare ops.MemoryGrow)) ≡ codes "memory.grow"
 unfolding word_of
 grow_word = refl
 
@@ -109,7 +111,7 @@ behind word text rest e = ap (λ (w : List ℕ). w ++ rest) e
 pub const_inked : (w : Width) (l : Label) (bits : ℕ) (rest : List Ink) → text_of (print_leaf (ops.Const w l bits) rest) ≡ (value_word (value_type w l) ++ codes ".const " ++ bits_text w bits) ++ text_of rest
 const_inked w l bits rest =
     let word = value_word (value_type w l) in
-    ap (λ (t : List ℕ). word_of (KOp (k.Const w l)) ++ (32 ∷ t)) (bits_inked w bits rest)
+    ap (λ (t : List ℕ). word_of (KOp (forms.Const w l)) ++ (32 ∷ t)) (bits_inked w bits rest)
     ∙ ap (λ (t : List ℕ). t ++ (32 ∷ (bits_text w bits ++ text_of rest))) (const_is w l)
     ∙ append_assoc word (codes ".const") (32 ∷ (bits_text w bits ++ text_of rest)) ∙ join3 word (codes ".const ") (bits_text w bits) (text_of rest)
 
@@ -123,21 +125,21 @@ place_inked word front bytes align offset rest e =
     ∙ join2 front (place_text bytes align offset) (text_of rest)
 
 pub leaf_inked : (leaf : Leaf Label) (rest : List Ink) → LeafFits leaf → text_of (print_leaf leaf rest) ≡ leaf_text leaf ++ text_of rest
-leaf_inked (ops.Br n) rest h = indexed_inked k.Br n rest
-leaf_inked (ops.BrIf n) rest h = indexed_inked k.BrIf n rest
+leaf_inked (ops.Br n) rest h = indexed_inked uses.Br n rest
+leaf_inked (ops.BrIf n) rest h = indexed_inked uses.BrIf n rest
 leaf_inked (ops.BrTable ns n) rest h =
-    ap (λ (t : List ℕ). word_of (KOp k.BrTable) ++ t) (indexes_inked ns (blank ∷ num n ∷ rest))
+    ap (λ (t : List ℕ). word_of (KOp forms.BrTable) ++ t) (indexes_inked ns (blank ∷ num n ∷ rest))
     ∙ ap (λ (w : List ℕ). w ++ (all_texts spaced_number ns ++ (32 ∷ (decimal n ++ text_of rest)))) table_word
     ∙ join3 (codes "br_table") (all_texts spaced_number ns) (spaced_number n) (text_of rest)
-leaf_inked (ops.Call n) rest h = indexed_inked k.Call n rest
+leaf_inked (ops.Call n) rest h = indexed_inked uses.Call n rest
 leaf_inked (ops.CallIndirect n) rest h =
-    ap (λ (t : List ℕ). word_of (KOp k.CallIndirect) ++ t) (use_inked n rest)
+    ap (λ (t : List ℕ). word_of (KOp forms.CallIndirect) ++ t) (use_inked n rest)
     ∙ ap (λ (w : List ℕ). w ++ (((codes " (type " ++ decimal n) ++ codes ")") ++ text_of rest)) indirect_word
-leaf_inked (ops.LocalGet n) rest h = indexed_inked k.LocalGet n rest
-leaf_inked (ops.LocalSet n) rest h = indexed_inked k.LocalSet n rest
-leaf_inked (ops.LocalTee n) rest h = indexed_inked k.LocalTee n rest
-leaf_inked (ops.GlobalGet n) rest h = indexed_inked k.GlobalGet n rest
-leaf_inked (ops.GlobalSet n) rest h = indexed_inked k.GlobalSet n rest
+leaf_inked (ops.LocalGet n) rest h = indexed_inked uses.LocalGet n rest
+leaf_inked (ops.LocalSet n) rest h = indexed_inked uses.LocalSet n rest
+leaf_inked (ops.LocalTee n) rest h = indexed_inked uses.LocalTee n rest
+leaf_inked (ops.GlobalGet n) rest h = indexed_inked uses.GlobalGet n rest
+leaf_inked (ops.GlobalSet n) rest h = indexed_inked uses.GlobalSet n rest
 leaf_inked (ops.Load w l bytes signed align offset) rest h =
     place_inked _ (value_word (value_type w l) ++ load_end w bytes signed) bytes align offset rest (load_is w l bytes signed h.0)
 leaf_inked (ops.Store w l bytes align offset) rest h =

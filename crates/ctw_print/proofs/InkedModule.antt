@@ -9,8 +9,9 @@ use Rattle.ctw_ops.specs.Code.{opcodes}
 use Rattle.ctw_ops.specs.Tree as tree
 use Rattle.ctw_ops.specs.Tree.{TypeEntry, Extern, Import, Function, Constant, Export, Element, Segment, Custom, Module}
 use Rattle.ctw_ops.specs.Valid.{IsValid}
-use Rattle.ctw_text.specs.Keys as k
-use Rattle.ctw_text.specs.Keys.{KExtern, KModule}
+use Rattle.ctw_text.specs.declared.keys.Key.TheVariants.{Extern as KExtern, Module as KModule}
+use Rattle.ctw_text.specs.declared.keys.Part.TheVariants as parts
+use Rattle.ctw_text.specs.declared.keys.Indexed.TheVariants as uses
 use Rattle.ctw_text.specs.Print.{Ink, blank, line, line2, num, open_, close, key, text_of, print_type_field, print_extern, print_memory, print_string, print_import, print_function, print_group, print_code, print_table, print_table_field, print_memory_field, print_constant, print_global, print_export, print_start, print_indexes, print_element, print_segment, print_custom, print_maybe, print_ct, print_each, print_segments, print_definitions, print_fields, print_module}
 use Rattle.ctw_print.specs.Words.{value_word}
 use Rattle.ctw_print.specs.Texts.{all_texts, spaced_number, string_text, locals_text, lines_text, bits_text, use_text, limits_text, table_text, memory_label, memory_text, variable_text, extern_text, entry_text, type_line, import_line, function_lines, table_line, memory_line, constant_text, global_line, kind_word, export_line, start_line, element_line, segment_line, custom_line, maybe_text, ct_text, declarations_text, spaces_text, contents_text, module_text}
@@ -55,7 +56,7 @@ function_inked : (f : Function Label) (rest : List Ink) → CodeFits f.body → 
 function_inked f rest h =
     let c = code_inked f.body (line2 ∷ close ∷ rest) h in
     let b = locals_inked f.locals (print_code f.body (line2 ∷ close ∷ rest)) ∙ ap (λ (t : List ℕ). locals_text f.locals ++ t) c in
-    let a = use_inked f.type (print_group k.Local f.locals (print_code f.body (line2 ∷ close ∷ rest))) ∙ ap (λ (t : List ℕ). use_text f.type ++ t) b in
+    let a = use_inked f.type (print_group parts.Local f.locals (print_code f.body (line2 ∷ close ∷ rest))) ∙ ap (λ (t : List ℕ). use_text f.type ++ t) b in
     rw func_word
     (ap (λ (t : List ℕ). codes "\n  (func" ++ t) a ∙ join5 (codes "\n  (func") (use_text f.type) (locals_text f.locals) (lines_text (opcodes f.body)) (codes "\n  )") (text_of rest))
 
@@ -71,7 +72,7 @@ constant_inked (tree.Number t bits) rest =
     let number = bits_text t.width bits in
     ap (λ (l : List ℕ). codes "(" ++ l) (const_inked t.width t.tag bits (close ∷ rest)) ∙ ap (λ (l : List ℕ). codes "(" ++ l) (sym (join3 word (codes ".const ") number (codes ")" ++ text_of rest)))
     ∙ join5 (codes "(") word (codes ".const ") number (codes ")") (text_of rest)
-constant_inked (tree.ValueOf n) rest = ap (λ (l : List ℕ). codes "(" ++ l) (indexed_inked k.GlobalGet n (close ∷ rest)) ∙ join3 (codes "(global.get ") (decimal n) (codes ")") (text_of rest)
+constant_inked (tree.ValueOf n) rest = ap (λ (l : List ℕ). codes "(" ++ l) (indexed_inked uses.GlobalGet n (close ∷ rest)) ∙ join3 (codes "(global.get ") (decimal n) (codes ")") (text_of rest)
 
 global_inked : (g : tree.Global Label) (rest : List Ink) → text_of (print_global g rest) ≡ global_line g ++ text_of rest
 global_inked g rest =

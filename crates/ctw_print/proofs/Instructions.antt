@@ -12,8 +12,9 @@ use Rattle.ctw_ops.specs.Types.{value_type}
 use Rattle.ctw_ops.specs.Forms.{is_load, is_store}
 use Rattle.ctw_ops.specs.Numeric.{is_numeric}
 use Rattle.ctw_ops.specs.Code as ops
-use Rattle.ctw_text.specs.Keys as k
-use Rattle.ctw_text.specs.Keys.{Key, KOp}
+use Rattle.ctw_text.specs.declared.keys.Key.{Key}
+use Rattle.ctw_text.specs.declared.keys.Key.TheVariants.{Op as KOp}
+use Rattle.ctw_text.specs.declared.keys.Form.TheVariants as forms
 use Rattle.ctw_text.specs.Words.{word_of}
 use Rattle.ctw_text.specs.Print.{natural}
 use Rattle.ctw_print.specs.Words.{value_word, load_end, store_end, front_width, numeric_end, numeric_word}
@@ -30,7 +31,7 @@ alike_is false word other e h = absurd (false≢true h)
 -- ---- numeric operations
 
 abbrev numeric_alike : Label → ℕ → Bool
-numeric_alike label op = alike (is_numeric op) (word_of (KOp (k.Bare (ops.Numeric op label)))) (numeric_word op label)
+numeric_alike label op = alike (is_numeric op) (word_of (KOp (forms.Bare (ops.Numeric op label)))) (numeric_word op label)
 
 public_numeric : below (numeric_alike Public) 0xC5 ≡ true
 unfolding word_of is_numeric front_width numeric_end below
@@ -44,7 +45,7 @@ numeric_below : (op : ℕ) → is_numeric op ≡ true → op < 0xC5
 unfolding is_numeric
 numeric_below op e = grind (arith, nat_tests)
 
-pub numeric_is : (op : ℕ) (label : Label) → is_numeric op ≡ true → word_of (KOp (k.Bare (ops.Numeric op label))) ≡ numeric_word op label
+pub numeric_is : (op : ℕ) (label : Label) → is_numeric op ≡ true → word_of (KOp (forms.Bare (ops.Numeric op label))) ≡ numeric_word op label
 numeric_is op Public e = alike_is (is_numeric op) _ _ (below_is (numeric_alike Public) 0xC5 public_numeric op (numeric_below op e)) e
 numeric_is op Secret e = alike_is (is_numeric op) _ _ (below_is (numeric_alike Secret) 0xC5 secret_numeric op (numeric_below op e)) e
 
@@ -52,7 +53,7 @@ numeric_is op Secret e = alike_is (is_numeric op) _ _ (below_is (numeric_alike S
 
 abbrev load_alike : Width → Label → Bool → ℕ → Bool
 load_alike w l signed bytes =
-    alike (is_load w bytes signed) (word_of (KOp (k.Access (ops.Load w l bytes signed (natural bytes) 0)))) (value_word (value_type w l) ++ load_end w bytes signed)
+    alike (is_load w bytes signed) (word_of (KOp (forms.Access (ops.Load w l bytes signed (natural bytes) 0)))) (value_word (value_type w l) ++ load_end w bytes signed)
 
 load_words : (w : Width) (l : Label) (signed : Bool) → below (load_alike w l signed) 9 ≡ true
 unfolding word_of below
@@ -70,12 +71,12 @@ load_below W32 bytes signed e = grind (arith, nat_tests)
 load_below W64 bytes signed e = grind (arith, nat_tests)
 
 pub load_is : (w : Width) (l : Label) (bytes : ℕ) (signed : Bool) → is_load w bytes signed ≡ true
-    → word_of (KOp (k.Access (ops.Load w l bytes signed (natural bytes) 0))) ≡ value_word (value_type w l) ++ load_end w bytes signed
+    → word_of (KOp (forms.Access (ops.Load w l bytes signed (natural bytes) 0))) ≡ value_word (value_type w l) ++ load_end w bytes signed
 load_is w l bytes signed e = alike_is (is_load w bytes signed) _ _ (below_is (load_alike w l signed) 9 (load_words w l signed) bytes (load_below w bytes signed e)) e
 
 abbrev store_alike : Width → Label → ℕ → Bool
 store_alike w l bytes =
-    alike (is_store w bytes) (word_of (KOp (k.Access (ops.Store w l bytes (natural bytes) 0)))) (value_word (value_type w l) ++ store_end w bytes)
+    alike (is_store w bytes) (word_of (KOp (forms.Access (ops.Store w l bytes (natural bytes) 0)))) (value_word (value_type w l) ++ store_end w bytes)
 
 store_words : (w : Width) (l : Label) → below (store_alike w l) 9 ≡ true
 unfolding word_of below
@@ -89,5 +90,5 @@ store_below W32 bytes e = grind (arith, nat_tests)
 store_below W64 bytes e = grind (arith, nat_tests)
 
 pub store_is : (w : Width) (l : Label) (bytes : ℕ) → is_store w bytes ≡ true
-    → word_of (KOp (k.Access (ops.Store w l bytes (natural bytes) 0))) ≡ value_word (value_type w l) ++ store_end w bytes
+    → word_of (KOp (forms.Access (ops.Store w l bytes (natural bytes) 0))) ≡ value_word (value_type w l) ++ store_end w bytes
 store_is w l bytes e = alike_is (is_store w bytes) _ _ (below_is (store_alike w l) 9 (store_words w l) bytes (store_below w bytes e)) e

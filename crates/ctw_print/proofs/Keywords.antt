@@ -9,8 +9,9 @@ use Rattle.ctw_ops.specs.declared.types.ExternTag.TheVariants.{Func, Table, Memo
 use Rattle.ctw_ops.specs.ValueType.{ValueType}
 use Rattle.ctw_ops.specs.Types.{value_type}
 use Rattle.ctw_ops.specs.Code.{OfBlock, OfLoop, OfIf}
-use Rattle.ctw_text.specs.Keys as k
-use Rattle.ctw_text.specs.Keys.{Key, KModule, KCt, KType, KVariant, KTrusted, KImport, KExport, KStart, KElem, KData, KCustom, KMut, KSecret, KFuncref, KElse, KEnd, KExtern, KGroup, KShape, KTy, KOp}
+use Rattle.ctw_text.specs.declared.keys.Key.{Key}
+use Rattle.ctw_text.specs.declared.keys.Key.TheVariants.{Module as KModule, Ct as KCt, «Type» as KType, Variant as KVariant, Trusted as KTrusted, Import as KImport, Export as KExport, Start as KStart, Elem as KElem, Data as KData, Custom as KCustom, Mut as KMut, Secret as KSecret, Funcref as KFuncref, Else as KElse, End as KEnd, Extern as KExtern, Group as KGroup, Shape as KShape, Ty as KTy, Op as KOp}
+use Rattle.ctw_text.specs.declared.keys.Part.TheVariants as parts
 use Rattle.ctw_text.specs.Words.{word_of}
 use Rattle.ctw_print.specs.Words.{value_word}
 use Rattle.ctw_print.specs.Texts.{kind_word}
@@ -101,11 +102,11 @@ extern_word Table = table_word
 extern_word Memory = memory_word
 extern_word Global = global_word
 
-pub param_word : word_of (KGroup k.Param) ≡ codes "param"
+pub param_word : word_of (KGroup parts.Param) ≡ codes "param"
 unfolding word_of
 param_word = refl
 
-pub local_word : word_of (KGroup k.Local) ≡ codes "local"
+pub local_word : word_of (KGroup parts.Local) ≡ codes "local"
 unfolding word_of
 local_word = refl
 

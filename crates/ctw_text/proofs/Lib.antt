@@ -1,3 +1,6 @@
+mod Lengths
+mod Utf8
+mod Strings
 pub mod Moves
 pub mod Back
 pub mod BackWords

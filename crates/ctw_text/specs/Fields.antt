@@ -137,7 +137,7 @@ refer OfMemory x d = record d { target = Some x }
 
 abbrev pub listed : Part → Option Name → ValueType Label → Draft → Draft
 listed Param n t d = record d { sig = record d.sig { params = record { name = n; type = t } ∷ d.sig.params } }
-listed k.Part.Result n t d = record d { sig = record d.sig { results = t ∷ d.sig.results } }
+listed k.Result n t d = record d { sig = record d.sig { results = t ∷ d.sig.results } }
 listed Local n t d = record d { locals = record { name = n; type = t } ∷ d.locals }
 
 abbrev pub first_named : Name → List Variable → List Variable
@@ -146,7 +146,7 @@ first_named w (v ∷ vs) = record v { name = Some w } ∷ vs
 
 abbrev pub called : Part → Name → Draft → Draft
 called Param w d = record d { sig = record d.sig { params = first_named w d.sig.params } }
-called k.Part.Result w d = d
+called k.Result w d = d
 called Local w d = record d { locals = first_named w d.locals }
 
 -- an access with its offset and align

@@ -1,8 +1,7 @@
 -- The grammar of the text form (W3C WebAssembly Core 1.0, sections 6.4 to 6.6, without floats, with own words): its
 -- nonterminals, its productions, and which tokens stand for which pieces.
 use Rattle.std.specs.Prelude.{◌≡◌, ℕ, zero, suc, ◌^◌, ◌-◌, ◌%◌, ◌||◌, nat_lt, nat_le, nat_eq, Bool, true, false, cond, List, [], ◌∷◌, ◌++◌, Option, Some, None}
-use Rattle.std.specs.Str.{is_utf8}
-use Rattle.std.specs.List.{list_all}
+use Rattle.ctw_text.specs.Written.{is_text}
 use Rattle.ctw_ops.specs.declared.types.Label.{Label}
 use Rattle.ctw_ops.specs.declared.types.Width.{Width}
 use Rattle.ctw_ops.specs.declared.types.Width.TheVariants.{W32, W64}
@@ -14,6 +13,17 @@ use Rattle.ctw_ops.specs.Code.{Leaf, Shape, OfBlock, OfLoop, OfIf}
 use Rattle.ctw_text.specs.Keys.{Part, Param, Result, Local, GlobalGet, Form, Bare, Access, Const, Uses, BrTable, CallIndirect, Key, KModule, KCt, KType, KVariant, KTrusted, KImport, KExport, KStart, KElem, KData, KCustom, KMut, KSecret, KFuncref, KOffset, KThen, KElse, KEnd, KExtern, KGroup, KShape, KTy, KOp, allowed}
 use Rattle.ctw_text.specs.Toks.{Name, Tok, Open, Close, Text, Id, Num, Signed, OffsetIs, AlignIs, Word}
 use Rattle.ctw_text.specs.Pieces.{Numbered, Named, Role, OfOp, OfTarget, OfEntry, OfBase, OfExport, OfStart, OfTable, OfMemory, OfItem, Quoted, ExportName, InlineExport, ModuleName, ImportName, CustomName, Bytes, TypeField, ImportField, ExportField, StartField, ElemField, DataField, CustomField, Defining, Piece, Begin, NameIs, KindIs, Quotes, Refers, Number, IsSecret, IsMutable, ValueIs, Entry, Trusting, Slot, Typed, Inline, Single, Branches, Indirect, Opens, Else, End, AtOffset, Aligned, Labelled, Yields, Repeats, Fold, Unfold}
+pub use Rattle.ctw_text.specs.declared.sorts.Before.{Before}
+pub use Rattle.ctw_text.specs.declared.sorts.Stage.{Stage}
+pub use Rattle.ctw_text.specs.declared.sorts.Stage.TheVariants.{AtType, AtTrusted, AtParams, AtResults, AtLocals}
+pub use Rattle.ctw_text.specs.declared.sorts.Tail.{Tail}
+pub use Rattle.ctw_text.specs.declared.sorts.Tail.TheVariants.{NoTail, MayRepeat, MayLabel, MayYield, MayOffset, MayAlign, MayTarget, InUse}
+pub use Rattle.ctw_text.specs.declared.sorts.Place.{Place}
+pub use Rattle.ctw_text.specs.declared.sorts.Place.TheVariants.{Body, InBlock, InIf, InFolded, InOperands, InConditions, InThen, InElse, Nothing}
+pub use Rattle.ctw_text.specs.declared.sorts.Filling.{Filling}
+use Rattle.ctw_text.specs.declared.sorts.Filling.TheVariants as filling
+pub use Rattle.ctw_text.specs.declared.sorts.Sort.{Sort}
+pub use Rattle.ctw_text.specs.declared.sorts.Sort.TheVariants.{Module, Head, Fields, Closing, TypeHead, FuncType, After, AfterThen, Group, Types, OneType, YieldType, ValueType as ValueType1, AnIndex, AConst, AString, ExternHead, TableBody, GlobalBody, MemoryBody, Pages, NamedType, TableType, GlobalType as GlobalType1, TableMax, MemoryMax, Funcref, InlineElem, Items, Strings, Expr, Offset, SegmentHead, ImportKind, ExportKind, CustomPlace}
 
 -- Conditions on tokens
 
@@ -46,22 +56,12 @@ exponent_below = go
 abbrev pub exponent : ℕ → Option ℕ
 exponent n = exponent_below 31 n
 
--- a name has to be UTF-8; ASCII is, and that test computes in examples
+-- a name has to be UTF-8
 abbrev pub takes_bytes : Quoted → List ℕ → Bool
 takes_bytes Bytes bytes = true
-takes_bytes what bytes = list_all (λ b. nat_lt b 128) bytes || is_utf8 bytes
+takes_bytes what bytes = is_text bytes
 
 -- Nonterminals
-
--- what the fields before say: whether one of them defines a function, table, memory or global,
--- and whether one is a start
-pub record Before : Type 0 where
-  pub defined : Bool
-  pub started : Bool
-
--- how far the parts of a typeuse have come; they stand in this order
-pub data Stage : Type 0 where
-  AtType AtTrusted AtParams AtResults AtLocals : Stage
 
 abbrev pub rank : Stage → ℕ
 rank AtType = 0
@@ -74,81 +74,10 @@ rank AtLocals = 4
 abbrev pub within : Stage → (last : Stage) → Bool
 within stage last = nat_le (rank stage) (rank last)
 
--- What may still belong to the thing before, each part of it once and in this order:
--- the rest of a typeuse (`locals`: and locals, in a function's head); the `id?` behind `end` or `else`;
--- `id? (result t)?` and `(result t)?` of a block; `offset? align?` and `align?` of an access; `idx*` of a br_table.
-pub data Tail : Type 0 where
-  NoTail MayRepeat MayLabel MayYield MayOffset MayAlign MayTarget : Tail
-  InUse : (locals : Bool) (stage : Stage) → Tail
-
--- where instructions stand, and so what closes them
-pub data Place : Type 0 where
-  -- a function's body, up to its `)`
-  Body : Place
-  -- a plain block, up to its `end`; and an `if`, up to its `end` or `else`
-  InBlock InIf : Place
-  -- a folded block, up to its `)`
-  InFolded : Place
-  -- folded instructions: operands up to the `)`, and those of an `if` up to its `(then`
-  InOperands InConditions : Place
-  -- `then` and `else` of a folded `if`, up to their `)`
-  InThen InElse : Place
-  -- no instructions: a `)`
-  Nothing : Place
-
-pub data Sort : Type 0 where
-  Module : Sort
-  -- id? ct? field* )
-  Head : (named : Bool) → Sort
-  -- field* )
-  Fields : (before : Before) → Sort
-  -- )
-  Closing : Sort
-  -- id? (func ..) or (variant ..)
-  TypeHead : (named : Bool) → Sort
-  -- (func ..)
-  FuncType : Sort
-  -- the tail of what stands before, and then instructions up to what closes them
-  After : (tail : Tail) (place : Place) → Sort
-  -- (else ..)? )
-  AfterThen : Sort
-  -- id type ) or type* )
-  Group : (part : Part) → Sort
-  -- type* )
-  Types : (part : Part) → Sort
-  -- a type
-  OneType : (part : Part) → Sort
-  YieldType ValueType1 : Sort
-  AnIndex : (role : Role) → Sort
-  AConst : (width : Width) (label : Label) → Sort
-  AString : (what : Quoted) → Sort
-  -- id? export* (import ..)?, and the rest of a func, table, memory or global field and of the fields behind it
-  ExternHead : (tag : ExternTag) (before : Before) (named : Bool) → Sort
-  -- the rest of such a field that defines, with its `)`; of a function it is `After`
-  TableBody GlobalBody : Sort
-  -- secret? limits ) and, if `inline`, secret? (data ..) )
-  MemoryBody : (inline : Bool) → Sort
-  -- the same behind `secret`
-  Pages : (inline : Bool) → Sort
-  -- id?, and then the type of an import with the `)`
-  NamedType : (tag : ExternTag) → Sort
-  TableType GlobalType1 : Sort
-  -- max? funcref, and max? )
-  TableMax MemoryMax : Sort
-  Funcref : Sort
-  -- (elem ..)
-  InlineElem : Sort
-  -- idx* ) and str* )
-  Items Strings : Sort
-  -- one const or one global.get, plain or folded
-  Expr : Sort
-  -- (offset expr) or a folded expr
-  Offset : Sort
-  -- idx? and an offset, and then what follows it
-  SegmentHead : (role : Role) (rest : Sort) → Sort
-  -- (func ..), (table ..), (memory ..) or (global ..) of an import, and of an export
-  ImportKind ExportKind : Sort
-  CustomPlace : Sort
+-- what follows the offset of a segment
+abbrev pub filled : Filling → Sort
+filled filling.Functions = Items
+filled filling.Bytes = Strings
 
 -- what a production writes behind its first tokens, and what follows them
 pub record Move : Type 0 where
@@ -311,8 +240,8 @@ module _ (ct : Bool) where
     no_more_items : Rule1 Items Close (gives [] [])
     bytes : {bs : List ℕ} → Rule1 Strings (Text bs) (gives (Quotes Bytes bs ∷ []) (Strings ∷ []))
     no_more_bytes : Rule1 Strings Close (gives [] [])
-    segment_index : {role : Role} {rest : Sort} {t : Tok} {m : Move} → Rule1 (AnIndex role) t m
-        → Rule1 (SegmentHead role rest) t (gives m.out (Offset ∷ rest ∷ []))
+    segment_index : {role : Role} {rest : Filling} {t : Tok} {m : Move} → Rule1 (AnIndex role) t m
+        → Rule1 (SegmentHead role rest) t (gives m.out (Offset ∷ filled rest ∷ []))
     expr_const : {w : Width} {l : Label} → allowed ct (KOp (Const w l)) ≡ true
         → Rule1 Expr (Word (KOp (Const w l))) (gives [] (AConst w l ∷ []))
     expr_global : Rule1 Expr (Word (KOp (Uses GlobalGet))) (gives [] (AGlobal ∷ []))
@@ -375,9 +304,9 @@ module _ (ct : Bool) where
         (gives (Begin StartField ∷ []) (AnIndex OfStart ∷ Closing ∷ Fields (starting b) ∷ []))
     -- (elem idx? offset idx*) and (data idx? offset str*)
     elem : {b : Before} {at : ℕ}
-        → Rule2 (Fields b) at KElem (gives (Begin ElemField ∷ []) (SegmentHead OfTable Items ∷ Fields b ∷ []))
+        → Rule2 (Fields b) at KElem (gives (Begin ElemField ∷ []) (SegmentHead OfTable filling.Functions ∷ Fields b ∷ []))
     data_ : {b : Before} {at : ℕ}
-        → Rule2 (Fields b) at KData (gives (Begin DataField ∷ []) (SegmentHead OfMemory Strings ∷ Fields b ∷ []))
+        → Rule2 (Fields b) at KData (gives (Begin DataField ∷ []) (SegmentHead OfMemory filling.Bytes ∷ Fields b ∷ []))
     -- (custom N str str)
     custom : {b : Before} {at : ℕ}
         → Rule2 (Fields b) at KCustom
@@ -433,8 +362,8 @@ module _ (ct : Bool) where
     expr_global : {at : ℕ} → Rule2 Expr at (KOp (Uses GlobalGet)) (gives [] (AGlobal ∷ Closing ∷ []))
     offset : {at : ℕ} → Rule2 Offset at KOffset (gives [] (Expr ∷ Closing ∷ []))
     folded_offset : {at : ℕ} {f : Form} {m : Move} → Rule2 Expr at (KOp f) m → Rule2 Offset at (KOp f) m
-    segment_offset : {role : Role} {rest : Sort} {at : ℕ} {k : Key} {m : Move} → Rule2 Offset at k m
-        → Rule2 (SegmentHead role rest) at k (before_sort m rest)
+    segment_offset : {role : Role} {rest : Filling} {at : ℕ} {k : Key} {m : Move} → Rule2 Offset at k m
+        → Rule2 (SegmentHead role rest) at k (before_sort m (filled rest))
     -- (result t) of a block
     labelled_yield : {p : Place} {at : ℕ}
         → Rule2 (After MayLabel p) at (KGroup Result) (gives [] (YieldType ∷ Closing ∷ After NoTail p ∷ []))

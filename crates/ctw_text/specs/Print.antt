@@ -120,7 +120,7 @@ print_group part (t ∷ ts) rest = blank ∷ open_ ∷ key (KGroup part) ∷ pri
 
 abbrev pub print_result : Option (ValueType Label) → List Ink → List Ink
 print_result None rest = rest
-print_result (Some t) rest = blank ∷ open_ ∷ key (KGroup k.Part.Result) ∷ blank ∷ ty t ∷ close ∷ rest
+print_result (Some t) rest = blank ∷ open_ ∷ key (KGroup k.Result) ∷ blank ∷ ty t ∷ close ∷ rest
 
 -- a const's number is signed
 abbrev pub print_bits : Width → ℕ → List Ink → List Ink

@@ -7,29 +7,9 @@ use Rattle.ctw_lex.specs.Strings.{string_value}
 use Rattle.ctw_lex.specs.Lexeme.{Lexeme}
 use Rattle.ctw_text.specs.Keys.{Key}
 use Rattle.ctw_text.specs.Words.{key_of}
-
--- an identifier and the offset at which it stands
-pub record Name : Type 0 where
-  pub word : List ℕ
-  pub place : ℕ
-
-pub data Tok : Type 0 where
-  -- a `(` and its offset
-  Open : (place : ℕ) → Tok
-  Close : Tok
-  -- a string by its bytes
-  Text : (bytes : List ℕ) → Tok
-  Id : (name : Name) → Tok
-  -- an unsigned number, and one with a sign
-  Num : (n : ℕ) → Tok
-  Signed : (neg : Bool) (n : ℕ) → Tok
-  -- `offset=N` and `align=N`
-  OffsetIs : (n : ℕ) → Tok
-  AlignIs : (n : ℕ) → Tok
-  Word : (key : Key) → Tok
-  -- an atom that names a float
-  Floats : Tok
-  Other : Tok
+pub use Rattle.ctw_text.specs.Written.{Name}
+pub use Rattle.ctw_text.specs.declared.toks.Tok.{Tok}
+pub use Rattle.ctw_text.specs.declared.toks.Tok.TheVariants.{Open, Close, Text, Id, Num, Signed, OffsetIs, AlignIs, Word, Floats, Other}
 
 -- Numbers: digits with single `_` between them
 

@@ -2,4 +2,15 @@
 //! its grammar, the module that a text denotes, the first fault of a text that denotes none, and the printed text.
 #![tactic(auto)]
 
+mod keys;
 pub mod laws;
+mod pieces;
+mod sorts;
+mod toks;
+mod words;
+
+pub use keys::{Form, Indexed, Key, Leaf, LeafKind, Opener, Part, Shape};
+pub use pieces::{FieldKind, Index, Name, Piece, Quote, Quoted, Role};
+pub use sorts::{Before, Filling, Place, Sort, Stage, Tail};
+pub use toks::Tok;
+pub use words::key_of;
