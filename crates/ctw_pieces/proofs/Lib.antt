@@ -1,0 +1,10 @@
+mod Advances
+mod StepLaws
+mod Exponents
+mod NumberValues
+mod AtomTexts
+mod Cuts
+mod LeadKinds
+mod FaultPlaces
+mod Claims
+mod Inline
