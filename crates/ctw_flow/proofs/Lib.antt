@@ -8,6 +8,7 @@ pub mod Rows
 pub mod OneRow
 pub mod Packed
 pub mod Added
+pub mod Grouped
 pub mod Sorting
 pub mod Placing
 pub mod Bits

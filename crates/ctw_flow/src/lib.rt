@@ -2,6 +2,7 @@
 #![tactic(auto)]
 
 mod graph;
+mod order;
 mod path;
 mod search;
 
