@@ -1,5 +1,5 @@
 -- The walks over a body's opcodes and over functions that look for the first misused call.
-use Rattle.std.proofs.Common.{◌≡◌, ◌≤◌, ◌<◌, ℕ, ◌+◌, ◌-◌, Bool, true, false, List, [], ◌∷◌, ◌++◌, length, map, drop, Some, None, slice_get, nat_lt, if◌then◌else◌, Ok, Err, sym, ap, ◌∙◌, subst, arith}
+use Rattle.std.proofs.Common.{◌≡◌, ◌≤◌, ◌<◌, ℕ, ◌+◌, ◌-◌, Bool, true, false, List, [], ◌∷◌, ◌++◌, length, map, drop, Option, Some, None, slice_get, nat_lt, if◌then◌else◌, Ok, Err, refl, sym, ap, ◌∙◌, subst, arith}
 use Rattle.std.proofs.lemmas.Option.{none-some}
 use Rattle.std.proofs.lemmas.List.{length-append, length-map}
 use Rattle.ctw_ops.specs.declared.types.Label.{Label}
@@ -110,3 +110,26 @@ functions_end m p f h le =
     let l = length-append (imported_functions m.imports) (map (λ f. f.type) m.functions) in
     let d = length-map m.functions (λ (f : Function Label). f.type) in
     h.none ∙ ap (λ l. slice_get (misused_within p f l) 0) (drop_past m.functions (f - imported_count m) (omega (arith, le, l, d, h.from)))
+
+-- ---- no function is trusted
+
+module _ (p : Points) (none : p.trusted ≡ []) where
+  no_trust : (f : ℕ) → has_number f p.trusted ≡ false
+  no_trust f = ap (has_number f) none
+
+  no_callee : (o : Option ℕ) → if_trusted p o ≡ None
+  no_callee None = refl
+  no_callee (Some f) = ap (λ b. if b then Some f else None) (no_trust f)
+
+  no_calls : (caller at : ℕ) (ops : List (Op Label)) → misused_from p caller at ops ≡ []
+  no_calls caller at [] = refl
+  no_calls caller at (op ∷ ops) = ap (λ o. misused_at caller at o ++ misused_from p caller (at + 1) ops) (no_callee (callee_in op)) ∙ no_calls caller (at + 1) ops
+
+  no_misuse : (k : ℕ) (fs : List (Function Label)) → misused_within p k fs ≡ []
+  no_misuse k [] = refl
+  no_misuse k (f ∷ fs) =
+      ap (λ b. (if b then [] else misused_from p k 0 (opcodes f.body)) ++ misused_within p (k + 1) fs) (no_trust k)
+      ∙ ap (λ l. l ++ misused_within p (k + 1) fs) (no_calls k 0 (opcodes f.body)) ∙ no_misuse (k + 1) fs
+
+  pub no_misused_calls : (m : Module Label) → slice_get (misused_calls m p) 0 ≡ None
+  no_misused_calls m = ap (λ l. slice_get l 0) (no_misuse (length (imported_functions m.imports)) m.functions)

@@ -70,6 +70,9 @@ fn first_in_body(body: &Body, p: &Points, caller: u32) -> Option<MisusedCall>
 pub fn first_call(m: &Module, p: &Points) -> Option<MisusedCall>
     ensures { slice_get (misused_calls (view_module m.now) p.now) 0 ≡ result }
 {
+    if p.trusts_none() {
+        return None;
+    }
     'functions: for f in m.imported_count(ExternTag::Func)..m.func_count() {
         if p.trusted(f) {
             continue;

@@ -1,5 +1,5 @@
 -- The links of sites and facts, one after another.
-use Rattle.std.proofs.Common.{◌≡◌, ◌≤◌, ◌<◌, ℕ, zero, suc, ◌+◌, List, [], ◌∷◌, ◌++◌, length, drop, map, replicate, Option, Some, None, if◌then◌else◌, Bool, true, false, refl, sym, ◌∙◌, ap, subst, arith, append_assoc}
+use Rattle.std.proofs.Common.{◌≡◌, ◌≤◌, ◌<◌, ℕ, zero, suc, ◌+◌, List, [], ◌∷◌, ◌++◌, length, drop, Option, Some, None, if◌then◌else◌, Bool, true, false, refl, sym, ◌∙◌, ap, subst, arith, append_assoc}
 use Rattle.std.specs.Prelude.{slice_get, option_map}
 use Rattle.std.proofs.lemmas.Option.{same_Some}
 use Rattle.std.specs.List.{AllByRecursion}
@@ -8,8 +8,8 @@ use Rattle.ctw_labels.specs.declared.tag.Tag.{Tag}
 use Rattle.ctw_labels.specs.declared.name.SiteName.{SiteName}
 use Rattle.ctw_labels.specs.declared.name.SiteName.TheVariants.{Param, Result, GlobalOf, Memory as MemoryOf, Local, Block as BlockOf, Op as OpOf, Push as PushOf, IParam, IResult}
 use Rattle.ctw_labels.specs.Names.{Site}
-use Rattle.ctw_labels.specs.Points.{Points, is_released}
-use Rattle.ctw_labels.specs.Links.{Fact, Link, Must, fact_links, fact_musts, links_of, musts_of}
+use Rattle.ctw_labels.specs.Points.{Points, is_released, has_release}
+use Rattle.ctw_labels.specs.Links.{Fact, Must, fact_links, fact_musts, links_of, musts_of}
 use Rattle.ctw_labels.specs.ModuleLinks.{yield_link, yield_links}
 use Rattle.ctw_links.specs.Collected.{triple, triples, push_of, yield_by, with_must, with_musts, FactIn}
 use Rattle.ctw_links.proofs.Lists.{drop_found}
@@ -111,3 +111,8 @@ module _ (p : Points) (ss : List Site) (n : ℕ) (s : Site) (links : List (ℕ �
 
     pub linked : (links' : List (ℕ × ℕ × ℕ)) → is_released p fun at ≡ false → links' ≡ links ++ (from, n, 1) ∷ [] → links' ≡ links ++ triples (yield_link p n s.name s.yields)
     linked links' k l = l ∙ ap (λ z. links ++ triples z) (sym (read ∙ ap (λ (c : Bool). if c then [] else record { from = from; to = n; rule = 1 } ∷ []) k))
+
+  -- nothing is released
+  module _ (fun at from : ℕ) (f : option_map (λ s. s.name) (slice_get ss n) ≡ Some (PushOf fun at)) (h : option_map (λ s. s.yields) (slice_get ss n) ≡ Some (Some from)) (none : p.releases ≡ []) where
+    pub unreleased : (links' : List (ℕ × ℕ × ℕ)) → links' ≡ links ++ (from, n, 1) ∷ [] → links' ≡ links ++ triples (yield_link p n s.name s.yields)
+    unreleased links' l = linked (PushOf fun at) fun at from f refl h links' (ap (has_release fun at) none) l

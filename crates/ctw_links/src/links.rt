@@ -1,4 +1,4 @@
-ghost use Rattle.std.specs.Prelude.{◌≡◌, ◌<◌, ◌↔◌, ◌++◌, ◌^◌, ℕ, [], false, length, replicate, slice_get, Some, IfOk, OnOk};
+ghost use Rattle.std.specs.Prelude.{◌≡◌, ◌<◌, ◌↔◌, ◌++◌, ◌∷◌, ◌^◌, ℕ, [], false, length, replicate, slice_get, Some, IfOk, OnOk};
 ghost use Rattle.std.specs.List.{AllByRecursion};
 ghost use Rattle.ctw_ops.specs.declared.types.Label.{Label};
 ghost use Rattle.ctw_ops.specs.Valid.{IsValid};
@@ -60,7 +60,15 @@ impl Links {
     }
 }
 
-/// Adds the link from a site to a push of it, unless an opcode of a function releases.
+/// Adds the link from a site to a push of it.
+fn link_from(from: u32, n: u32, links: &mut Vec<(u32, u32, u8)>) -> Result<(), AllocError>
+    ensures { OnOk result (links.new.items ≡ links.old.items ++ (from, n, 1) ∷ []) }
+{
+    links.push((from, n, 1))?;
+    Ok(())
+}
+
+/// The same, unless an opcode of a function releases.
 fn link_unreleased(
     p: &Points,
     push: (u32, u32),
@@ -73,8 +81,7 @@ fn link_unreleased(
     if p.releases(push.0, push.1) {
         return Ok(());
     }
-    links.push((from, n, 1))?;
-    Ok(())
+    link_from(from, n, links)
 }
 
 /// The same of a site by its name.
@@ -113,7 +120,12 @@ fn link_yield(
         ≡ links.old.items ++ triples (yield_link p.now n site.name site.yields)) }
 {
     match s.yield_of(n) {
-        Some(from) => link_push(p, s.name(n), from, n, links),
+        Some(from) => {
+            if p.releases_none() {
+                return link_from(from, n, links);
+            }
+            link_push(p, s.name(n), from, n, links)
+        }
         None => Ok(()),
     }
 }

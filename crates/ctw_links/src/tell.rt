@@ -15,6 +15,7 @@ use ctw_stack::{Slot, Stack, Underflow};
 use std::alloc::AllocError;
 
 /// Takes the last operand off, and tells what is asked of it. It answers the operand's width where that is known.
+#[inline(always)]
 pub fn ask(
     stack: &mut Stack<Tag>,
     ask: Ask,

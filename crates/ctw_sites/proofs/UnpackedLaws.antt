@@ -1,9 +1,9 @@
 -- What is read back of sites' words is those sites, where each word has room for its site.
-use Rattle.std.proofs.Common.{◌≡◌, ◌≤◌, ◌<◌, ◌^◌, ℕ, zero, suc, ◌+◌, Bool, true, false, cond, List, [], ◌∷◌, ◌++◌, length, map, get_or, Option, Some, None, refl, sym, ◌∙◌, ap, subst, arith}
-use Rattle.std.specs.Prelude.{count_by, nat_le, option_map, slice_get}
+use Rattle.std.proofs.Common.{◌≡◌, ◌≤◌, ◌<◌, ◌^◌, ℕ, zero, suc, ◌+◌, Bool, true, false, cond, List, [], ◌∷◌, ◌++◌, length, map, get_or, Option, Some, None, refl, sym, ◌∙◌, ap, subst, arith, ◌⊎◌, inl, inr}
+use Rattle.std.specs.Prelude.{count_by, nat_le, option_map, slice_get, IfSome}
 use Rattle.std.specs.List.{AllByRecursion}
 use Rattle.std.specs.List.Sorted.{IsNonDecreasing, IsPartitionPoint}
-use Rattle.std.proofs.lemmas.Bool.{le-leb, lt-leb}
+use Rattle.std.proofs.lemmas.Bool.{le-leb, lt-leb, cases_eq, ne_eqb}
 use Rattle.std.proofs.lemmas.List.Sums.{sum_by-cons}
 use Rattle.ctw_labels.specs.declared.name.SiteName.{SiteName}
 use Rattle.ctw_labels.specs.declared.name.SiteName.TheVariants.{Param, Result, GlobalOf, Memory as MemoryOf, Local, Block as BlockOf, Op as OpOf, Push as PushOf, IParam, IResult}
@@ -11,7 +11,7 @@ use Rattle.ctw_labels.specs.Names.{Site, site, push_site}
 use Rattle.ctw_labels.specs.Numbering.{sites_for}
 use Rattle.ctw_labels.specs.Order.{name_at}
 use Rattle.ctw_sites.specs.Packed.{packed, packed_word}
-use Rattle.ctw_sites.specs.Unpacked.{Firsts, upto, func_at, body_at, name_by, yield_by, kind_of, at_of, index_of, site_at, unpacked, yields_at}
+use Rattle.ctw_sites.specs.Unpacked.{Firsts, upto, func_at, body_at, name_by, before, yield_by, kind_of, at_of, index_of, site_at, unpacked, yields_at}
 use Rattle.ctw_sites.proofs.YieldLaws.{YieldFits, InCode, IsInCode}
 
 -- ---- places
@@ -146,6 +146,18 @@ pub yields_there : (t : Firsts) (words : List ℕ) (k w : ℕ) → slice_get wor
 yields_there t words k w e =
     let z : 0 + k ≡ k = omega arith in
     ap (option_map (λ (s : Site). s.yields)) (unpacked_at t 0 words k) ∙ (λ j. option_map (λ (s : Site). s.yields) (option_map (site_at t (z j)) (e j)))
+
+-- a site that yields is a push
+pub yields_push : (t : Firsts) (words : List ℕ) (k w : ℕ) (y : Option ℕ) → slice_get words k ≡ Some w → y ≡ yield_by (kind_of w) (index_of w) → IfSome y (λ _. (f : ℕ) × (at : ℕ) × (name_at (unpacked t 0 words) k ≡ Some (PushOf f at)))
+yields_push t words k w None e h = tt
+yields_push t words k w (Some y) e h = go (cases_eq (kind_of w) 7)
+  where
+    go : (kind_of w ≡ 7) ⊎ (kind_of w ≡ 7 → ⊥) → (f : ℕ) × (at : ℕ) × (name_at (unpacked t 0 words) k ≡ Some (PushOf f at))
+    go (inl q) = (body_at t k, at_of w, name_there t words k w e ∙ ap (λ n. Some (name_by n (func_at t k) (body_at t k) (at_of w) (index_of w))) q)
+    go (inr q) =
+        let n : yield_by (kind_of w) (index_of w) ≡ None = ap (λ b. cond b (before (index_of w)) None) (ne_eqb (kind_of w) 7 q) in
+        let m : Some y ≡ None = h ∙ n in
+        cc
 
 -- ---- a place among those that don't fall
 

@@ -163,6 +163,7 @@ impl<'a> Around<'a> {
     }
 
     /// A local's width and site; None exactly where there is no such local.
+    #[inline(always)]
     pub fn local(&self, x: u32) -> Option<(Width, Tag)>
         ensures { option_map type_of result ≡ slice_get (locals_of self.now) x }
     {

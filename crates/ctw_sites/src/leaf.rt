@@ -31,6 +31,7 @@ fn branch_row(stack: &Stack<Tag>, depth: u32) -> Row
 
 /// The row of an instruction without instructions inside, whose sites begin at `n`. Nothing is said of `select`, and of
 /// `block`, `loop`, `if`, `else` and `end`.
+#[inline(always)]
 pub fn row_of(around: &Around, stack: &Stack<Tag>, instr: &Instr, n: u32) -> Row
     requires exactly { IsExactly instr.now }
     requires room { n + own_count (place around.now) (op_of instr.now) < 2 ^ 32 }
@@ -73,6 +74,7 @@ pub fn row_of(around: &Around, stack: &Stack<Tag>, instr: &Instr, n: u32) -> Row
 }
 
 /// Adds the sites of an opcode before its push's.
+#[inline(always)]
 pub fn push_own(
     around: &Around,
     packer: &mut Packer,

@@ -1,4 +1,4 @@
-ghost use Rattle.std.specs.Prelude.{◌≡◌, ◌==◌, ◌&&◌, ◌||◌, ℕ, IfOk, IfErr};
+ghost use Rattle.std.specs.Prelude.{◌≡◌, ◌==◌, ◌&&◌, ◌||◌, ◌↔◌, ℕ, true, [], IfOk, IfErr};
 ghost use Rattle.ctw_labels.specs.Points.{no_points, has_number, is_released};
 
 use std::alloc::{AllocError, Global};
@@ -59,6 +59,20 @@ impl Points {
     {
         self.releases.insert((f, at))?;
         Ok(())
+    }
+
+    /// Whether no function is trusted.
+    pub fn trusts_none(&self) -> bool
+        ensures { (result ≡ true) ↔ (self.now.trusted ≡ []) }
+    {
+        self.trusted.is_empty()
+    }
+
+    /// Whether no opcode releases what it pushes.
+    pub fn releases_none(&self) -> bool
+        ensures { (result ≡ true) ↔ (self.now.releases ≡ []) }
+    {
+        self.releases.is_empty()
     }
 
     /// Whether a function is trusted.

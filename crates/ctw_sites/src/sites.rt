@@ -1,6 +1,7 @@
-ghost use Rattle.std.specs.Prelude.{◌≡◌, ◌≤◌, ◌<◌, ◌↔◌, ℕ, false, Some, length, IfOk, IfErr};
+ghost use Rattle.std.specs.Prelude.{◌≡◌, ◌≤◌, ◌<◌, ◌↔◌, ℕ, false, Some, length, IfOk, IfErr, IfSome};
 ghost use Rattle.ctw_ops.specs.Valid.{IsValid};
 ghost use Rattle.ctw_module.specs.Trees.{view_module};
+ghost use Rattle.ctw_labels.specs.declared.name.SiteName.TheVariants.{Push};
 ghost use Rattle.ctw_labels.specs.Order.{key_of, name_at};
 ghost use Rattle.ctw_labels.specs.SitedModule.{sites as sites_of};
 ghost use Rattle.ctw_sites.specs.Packed.{most_sites};
@@ -114,7 +115,8 @@ impl Sites {
     /// comes from no site: of `memory.size` and `memory.grow`, and of constants, which are sites of their own.
     pub fn yield_of(&self, site: u32) -> Option<u32>
         requires { site < length self.now }
-        ensures { yields_at self.now site ≡ Some result }
+        ensures yields { yields_at self.now site ≡ Some result }
+        ensures push { IfSome result (λ _. (f : ℕ) × (at : ℕ) × (name_at self.now site ≡ Some (Push f at))) }
     {
         unpack::yield_of(self.words[site as usize])
     }

@@ -2,8 +2,11 @@ use Rattle.std.proofs.Common.{◌<◌, length, ◌∙◌, sym, arith}
 use Rattle.ctw_ops.specs.Tree.{function_entries}
 use Rattle.ctw_module.specs.Trees.{view_module}
 use Rattle.ctw_sites.proofs.BodiesLaws.{is_defined}
-use Rattle.ctw_infer.proofs.Walks.{functions_begin, functions_over, functions_on, functions_found, functions_end}
+use Rattle.ctw_infer.proofs.Walks.{functions_begin, functions_over, functions_on, functions_found, functions_end, no_misused_calls}
 use Rattle.ctw_infer.proofs.trust.first_call.Goals as goal
+
+pub returns-then-trusts_none : goal.returns-then-trusts_none
+returns-then-trusts_none c = no_misused_calls c.args.p.now (c.trusts_none.ensures.0 c.if-trusts_none.true) (view_module c.args.m.now)
 
 pub functions-init : goal.functions-init
 functions-init c = functions_begin (view_module c.args.m.now) c.args.p.now c.imported_count-f.result c.imported_count-f.ensures
