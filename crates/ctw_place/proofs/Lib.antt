@@ -18,3 +18,4 @@ pub mod UseLaws
 pub mod VariantTexts
 pub mod WalkLaws
 pub mod WholeLaws
+pub mod ProfileLaws

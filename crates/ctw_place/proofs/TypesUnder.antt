@@ -6,13 +6,19 @@ use Rattle.std.proofs.lemmas.Bool.{false≢true}
 use Rattle.std.proofs.lemmas.List.{take_all, length-map}
 use Rattle.std.proofs.lemmas.Option.{slice_get-map}
 use Rattle.ctw_ops.specs.declared.types.Label.{Label}
+use Rattle.ctw_ops.specs.declared.types.Trust.{Trust}
+use Rattle.ctw_ops.specs.Types.{FunctionType}
+use Rattle.ctw_ops.specs.Typing.{optional}
 use Rattle.ctw_ops.specs.Types.{ValueType, type_byte, byte_type, byte_types, is_type_byte, value_type}
-use Rattle.ctw_ops.specs.TagMaps.{type_to}
+use Rattle.ctw_ops.specs.TagMaps.{type_to, function_type_to}
 use Rattle.ctw_form.proofs.Params.{types_at, type_byte_at, types_length}
 use Rattle.ctw_labels.specs.declared.tag.Tag.{Tag}
 use Rattle.ctw_labels.specs.declared.tag.Tag.TheVariants.{At}
-use Rattle.ctw_labels.specs.Numbering.{params_from, result_from}
-use Rattle.ctw_labels.specs.Placed.{is_public, are_public}
+use Rattle.ctw_labels.specs.Fits.{label_at}
+use Rattle.ctw_labels.specs.Links.{at_tag}
+use Rattle.ctw_labels.specs.Numbering.{params_from, result_from, type_from}
+use Rattle.ctw_labels.specs.SitedModule.{site_count}
+use Rattle.ctw_labels.specs.Placed.{is_public, are_public, is_untrusted, is_all_public, with_trust}
 use Rattle.ctw_sites.proofs.ScopeLaws.{params_at, params_length}
 use Rattle.ctw_write.specs.Canon.{all_texts, type_text}
 use Rattle.ctw_write.proofs.Listed.{Listed, listed_begin, listed_next, listed_end, take_next}
@@ -75,3 +81,31 @@ module _ (L : Tag → Label) (q : ℕ) (bytes : List ℕ) where
 pub result_under : (L : Tag → Label) (n : ℕ) (t : Option (ValueType Label)) → option_map (type_to L) (result_from n t) ≡ option_map (λ u. value_type u.width (L (At n))) t
 result_under L n None = refl
 result_under L n (Some t) = refl
+
+-- ---- a type whose sites are public
+
+module _ (labels : List Label) where
+  open_params : {A : Type 0} (first : ℕ) (ts : List (ValueType A)) → ((i : ℕ) → i < length ts → is_public (label_at labels (first + i)) ≡ true) → are_public (map (type_to (at_tag (label_at labels))) (params_from first ts)) ≡ true
+  open_params first [] h = refl
+  open_params first (t ∷ ts) h =
+      let z : first ≡ first + 0 = omega arith in
+      ap (λ n. is_public (label_at labels n) && are_public (map (type_to (at_tag (label_at labels))) (params_from (first + 1) ts))) z
+      ∙ ap (λ b. b && are_public (map (type_to (at_tag (label_at labels))) (params_from (first + 1) ts))) (h 0 (omega arith))
+      ∙ open_params (first + 1) ts (λ i l. let e : first + 1 + i ≡ first + suc i = omega arith in ap (λ n. is_public (label_at labels n)) e ∙ h (suc i) (omega arith))
+
+  open_result : {A : Type 0} (site : ℕ) (t : Option (ValueType A)) → (0 < length (optional t) → is_public (label_at labels site) ≡ true) → are_public (optional (option_map (type_to (at_tag (label_at labels))) (result_from site t))) ≡ true
+  open_result site None h = refl
+  open_result site (Some t) h = ap (λ b. b && true) (h (omega arith))
+
+  pub open_type : {A : Type 0} (trust : Trust) (first : ℕ) (g : FunctionType A) → is_untrusted trust ≡ true → ((i : ℕ) → i < site_count g → is_public (label_at labels (first + i)) ≡ true)
+      → is_all_public (function_type_to (at_tag (label_at labels)) (with_trust trust (type_from first g))) ≡ true
+  open_type trust first g u h =
+      ap (λ b. b && (are_public params && are_public (optional result))) u
+      ∙ ap (λ b. b && are_public (optional result)) (open_params first g.params (λ i l. h i (omega (arith, l))))
+      ∙ open_result (first + length g.params) g.result (λ l. h (length g.params) (omega (arith, l)))
+    where
+      params : List (ValueType Label)
+      params = map (type_to (at_tag (label_at labels))) (params_from first g.params)
+
+      result : Option (ValueType Label)
+      result = option_map (type_to (at_tag (label_at labels))) (result_from (first + length g.params) g.result)

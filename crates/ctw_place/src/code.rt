@@ -24,10 +24,13 @@ use ctw_stack::Stack;
 use std::alloc::{AllocError, Global};
 
 /// What a body becomes, with the closing end; `n` is the site of its first opcode, and the answer that behind its last.
+/// `stack` and `ends` are memory that is used again.
 pub fn put_code(
     alloc: Global,
     setting: &Setting,
     around: &Around,
+    stack: &mut Stack<Tag>,
+    ends: &mut Vec<Option<Lift>>,
     variants: &mut Variants,
     out: &mut Vec<u8>,
     body: &Body,
@@ -47,8 +50,8 @@ pub fn put_code(
     ensures next { (code : Code Label) → IsBody body.now code → IfOk result (λ k. k ≡ n + length
         (code_sites (place_under (points_of setting.now) around.now) (scope_under (points_of setting.now) around.now) code n)) }
 {
-    let mut stack = Stack::new(alloc);
-    let mut ends: Vec<Option<Lift>> = Vec::new(alloc);
+    stack.clear();
+    ends.clear();
     stack.enter(false, around.result())?;
     ends.push(None)?;
     let mut walk = Walk::new(body);
@@ -60,15 +63,7 @@ pub fn put_code(
             Err(_) => unreachable!(),
         };
         put_op(alloc, setting, variants, out, &instr, site)?;
-        let (behind, lift) = pass(
-            around,
-            setting.points,
-            &mut stack,
-            &mut ends,
-            &instr,
-            site,
-            at,
-        )?;
+        let (behind, lift) = pass(around, setting.points, stack, ends, &instr, site, at)?;
         put_lift(out, &setting.labels, lift)?;
         site = behind;
         at += 1;

@@ -22,13 +22,16 @@ ghost use Rattle.ctw_place.specs.Settings.{module_of, labels_of, points_of};
 use crate::code::put_code;
 use crate::functions::Functions;
 use crate::labels::Labels;
+use crate::lift::Lift;
 use crate::setting::Setting;
 use crate::variants::Variants;
+use ctw_labels::Tag;
 use ctw_leb::put_u32;
 use ctw_module::Module;
 use ctw_ops::{ExternTag, ValType};
 use ctw_sites::around::Around;
 use ctw_sites::head::signature;
+use ctw_stack::Stack;
 use ctw_write::entry::{Run, put_group, with_local};
 use ctw_write::text::put_sized;
 use std::alloc::{AllocError, Global};
@@ -86,11 +89,14 @@ fn put_locals(
 }
 
 /// The code of a defined function under labels; `n` is the site of its first declared local, and the answer that behind
-/// its last one.
+/// its last one. `stack`, `ends` and `entry` are memory that is used again.
 fn put_entry(
     alloc: Global,
     setting: &Setting,
     functions: &Functions,
+    stack: &mut Stack<Tag>,
+    ends: &mut Vec<Option<Lift>>,
+    entry: &mut Vec<u8>,
     variants: &mut Variants,
     out: &mut Vec<u8>,
     f: u32,
@@ -123,19 +129,21 @@ fn put_entry(
     };
     let (first, _) = signature(m, m.type_of_func(f));
     let count = m.local_count(f) - first;
-    let mut entry = Vec::new(alloc);
-    put_locals(alloc, &mut entry, setting, f, first, count, n)?;
+    entry.clear();
+    put_locals(alloc, entry, setting, f, first, count, n)?;
     let around = Around::new(m, &functions.heads, setting.globals, f, n);
     let next = put_code(
         alloc,
         setting,
         &around,
+        stack,
+        ends,
         variants,
-        &mut entry,
+        entry,
         &body,
         n + count,
     )?;
-    put_sized(out, &entry)?;
+    put_sized(out, entry)?;
     Ok(next)
 }
 
@@ -175,8 +183,14 @@ pub fn codes(
     let mut out = Vec::new(alloc);
     put_u32(&mut out, count - imported)?;
     let mut site = first_site(m, setting.globals);
+    let mut stack = Stack::new(alloc);
+    let mut ends = Vec::new(alloc);
+    let mut entry = Vec::new(alloc);
     'functions: for f in imported..count {
-        site = put_entry(alloc, setting, functions, variants, &mut out, f, site)?;
+        site = put_entry(
+            alloc, setting, functions, &mut stack, &mut ends, &mut entry, variants, &mut out, f,
+            site,
+        )?;
     }
     Ok(out)
 }

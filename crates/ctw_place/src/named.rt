@@ -7,7 +7,7 @@ ghost use Rattle.ctw_place.specs.Variants.{name_in, Holds};
 ghost use Rattle.ctw_place.specs.Settings.{module_of, use_at};
 
 use crate::setting::Setting;
-use crate::uses::spelled;
+use crate::uses::{is_plain, spelled};
 use crate::variants::Variants;
 use ctw_ops::Trust;
 use std::alloc::{AllocError, Global};
@@ -32,6 +32,9 @@ pub fn named(
         (with_uses (with_use vs (use_at setting.now y first trust)) later) y (use_at setting.now y first trust).type) }
 {
     let _ = setting.whole.bytes();
+    if is_plain(setting, y, first, trust) {
+        return Ok(y);
+    }
     let (text, public) = spelled(alloc, setting, y, first, trust)?;
     if public {
         return Ok(y);

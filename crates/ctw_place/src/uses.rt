@@ -1,5 +1,5 @@
 //! How a type under labels is spelled as a variant's entry.
-ghost use Rattle.std.specs.Prelude.{◌≡◌, ◌<◌, ◌+◌, ◌^◌, ◌++◌, ◌&&◌, map, length, option_map, IsTrue, IfSome, IfOk, OnOk};
+ghost use Rattle.std.specs.Prelude.{◌≡◌, ◌<◌, ◌+◌, ◌^◌, ◌++◌, ◌&&◌, ℕ, true, map, length, option_map, IsTrue, IfSome, IfOk, OnOk};
 ghost use Rattle.std.specs.List.{list_all};
 ghost use Rattle.ctw_ops.specs.Types.{type_byte, byte_type, byte_types, is_type_byte, value_type};
 ghost use Rattle.ctw_ops.specs.Typing.{optional};
@@ -16,7 +16,7 @@ ghost use Rattle.ctw_place.specs.Variants.{use_text};
 ghost use Rattle.ctw_place.specs.Settings.{module_of, use_at};
 
 use crate::labels::Labels;
-use crate::setting::Setting;
+use crate::setting::{Setting, sites_of};
 use ctw_flat::{byte_of_type, type_of_byte};
 use ctw_leb::put_u32;
 use ctw_module::Module;
@@ -197,4 +197,26 @@ pub fn spelled(
     text.push(trust_code(trust))?;
     let public = put_signature(&mut text, &ty, &setting.labels, first)?;
     Ok((text, is_none(trust) && public))
+}
+
+/// Whether the labels of so many sites from a first one on are public.
+fn are_open(labels: &Labels, first: u32, count: u32) -> bool
+    requires { first + count < 2 ^ 32 }
+    ensures { result ≡ true → (i : ℕ) → i < count → is_public (label_at labels.now (first + i)) ≡ true }
+{
+    'sites: for i in 0..count {
+        if !is_open(labels.at(first + i)) {
+            return false;
+        }
+    }
+    true
+}
+
+/// Whether a type entry needs no variant under the labels of sites from a first one on: it is untrusted, and these are
+/// public.
+pub fn is_plain(setting: &Setting, y: u32, first: u32, trust: Trust) -> bool
+    requires { first + site_count (type_named (module_of setting.now) y) < 2 ^ 32 }
+    ensures { result ≡ true → is_all_public (use_at setting.now y first trust).type ≡ true }
+{
+    is_none(trust) && are_open(&setting.labels, first, sites_of(setting.whole, y))
 }

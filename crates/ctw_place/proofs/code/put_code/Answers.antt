@@ -41,8 +41,8 @@ pub opcodes-init : goal.opcodes-init
 opcodes-init c = record {
   bytes = c.new-walk.ensures.bytes;
   walking = λ before code h m r.
-      let e = c.in_ok-enter.ensures ∙ (λ i. opened false (c.result.ensures i) ∷ c.new-stack.ensures.empty i) in
-      let es = ap reverse (c.in_ok-push.ensures.items ∙ ap (λ z. z ++ None ∷ []) c.new-ends.ensures.items) in
+      let e = c.in_ok-enter.ensures ∙ (λ i. opened false (c.result.ensures i) ∷ c.clear.ensures i) in
+      let es = ap reverse (c.in_ok-push.ensures.items ∙ ap (λ z. z ++ None ∷ []) c.clear-2.ensures.items) in
       walking_begins c.args.setting.now (points_of c.args.setting.now) c.args.around.now.f (scope_under (points_of c.args.setting.now) c.args.around.now) code c.args.n before
       c.args.body.now c.new-walk.result.place c.enter.new.self (reverse c.push.new.self.items) c.args.out.now.items c.args.variants.now c.new-walk.ensures.place refl m
       (subst (λ z. IsReady z (scope_under (points_of c.args.setting.now) c.args.around.now) code c.args.n) (here c.args.setting.now c.args.around.now c.requires.whole) r) e es h;

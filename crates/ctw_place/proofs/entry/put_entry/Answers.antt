@@ -68,7 +68,7 @@ put_sized-requires c =
     let s = c.in-Some.ensures.spelled in
     let d = declared_are (module_of c.args.setting.now) c.args.f c.type_of_func.result c.signature-first.result.0 c.local_count.result s.0 c.requires.defined c.type_of_func.ensures c.signature-first.ensures.params c.local_count.ensures s.1 in
     let et : (c.args.n + (c.local_count.result - c.signature-first.result.0)) ≡ c.args.n + length s.0.locals = ap (λ k. c.args.n + k) d.left in
-    let t = entry_text c.args.setting.now c.requires.room.0 c.requires.room.1 (get_or c.args.functions.now.heads.items c.args.f 0) c.args.f c.args.n s.0 c.new-entry.result.items c.put_locals.new.out.items c.put_code.new.out.items (sited_body (points_of c.args.setting.now) c.new-around.result s.0.body (c.args.n + (c.local_count.result - c.signature-first.result.0))) c.new-entry.ensures.items
+    let t = entry_text c.args.setting.now c.requires.room.0 c.requires.room.1 (get_or c.args.functions.now.heads.items c.args.f 0) c.args.f c.args.n s.0 c.clear.new.self.items c.put_locals.new.out.items c.put_code.new.out.items (sited_body (points_of c.args.setting.now) c.new-around.result s.0.body (c.args.n + (c.local_count.result - c.signature-first.result.0))) c.clear.ensures.items
     (c.in_ok-put_locals.ensures s.0 s.1) (c.in_ok-next.ensures.put c.requires.room.0 c.requires.room.1 s.0.body c.requires.room.2 s.2.0) (code_under c.new-around.result c.args.setting.now.whole.now (points_of c.args.setting.now) c.args.f (get_or c.args.functions.now.heads.items c.args.f 0) c.args.n s.0 c.new-around.ensures.whole c.new-around.ensures.f (sym (get_or_from_slice_get c.args.functions.now.heads.items c.args.f c.new-around.result.head 0 (ap (λ z. slice_get z c.args.f) (sym c.deref.ensures.value) ∙ c.new-around.ensures.head))) c.new-around.ensures.locals s.1 (c.args.n + (c.local_count.result - c.signature-first.result.0)) et) in
     sized_longer c.deref-2.result.now _ (ap sized_text c.deref-2.ensures.value ∙ t) (c.requires.room.3 s.0 s.1).short
 
@@ -89,7 +89,7 @@ returns c = record {
       let b = subst (λ z. IsBody c.in-Some.body z.body) k s.2.0 in
       let d = declared_are (module_of c.args.setting.now) c.args.f c.type_of_func.result c.signature-first.result.0 c.local_count.result F c.requires.defined c.type_of_func.ensures c.signature-first.ensures.params c.local_count.ensures e in
       let et : (c.args.n + (c.local_count.result - c.signature-first.result.0)) ≡ c.args.n + length F.locals = ap (λ k. c.args.n + k) d.left in
-      let t = entry_text c.args.setting.now vs later (get_or c.args.functions.now.heads.items c.args.f 0) c.args.f c.args.n F c.new-entry.result.items c.put_locals.new.out.items c.put_code.new.out.items (sited_body (points_of c.args.setting.now) c.new-around.result F.body (c.args.n + (c.local_count.result - c.signature-first.result.0))) c.new-entry.ensures.items
+      let t = entry_text c.args.setting.now vs later (get_or c.args.functions.now.heads.items c.args.f 0) c.args.f c.args.n F c.clear.new.self.items c.put_locals.new.out.items c.put_code.new.out.items (sited_body (points_of c.args.setting.now) c.new-around.result F.body (c.args.n + (c.local_count.result - c.signature-first.result.0))) c.clear.ensures.items
       (c.in_ok-put_locals.ensures F e) (c.in_ok-next.ensures.put vs later F.body h b) (code_under c.new-around.result c.args.setting.now.whole.now (points_of c.args.setting.now) c.args.f (get_or c.args.functions.now.heads.items c.args.f 0) c.args.n F c.new-around.ensures.whole c.new-around.ensures.f (sym (get_or_from_slice_get c.args.functions.now.heads.items c.args.f c.new-around.result.head 0 (ap (λ z. slice_get z c.args.f) (sym c.deref.ensures.value) ∙ c.new-around.ensures.head))) c.new-around.ensures.locals e (c.args.n + (c.local_count.result - c.signature-first.result.0)) et) in
       c.in_ok-put_sized.ensures.put ∙ ap (λ (l : List ℕ). c.args.out.now.items ++ l) (ap sized_text c.deref-2.ensures.value ∙ t);
   next = λ F e.
