@@ -85,12 +85,12 @@ Exactly d F = Gathers (Known {X = Unit {0}} (λ u. d) Anything) F
 -- Lists of one shape
 
 abbrev variable : ValueType Label → Variable
-variable t = record { name = None; type = t }
+variable t = record { name = None; ty = t }
 
 abbrev variables : List (ValueType Label) → List Variable
 variables ts = map variable ts
 
-types_back : (ts : List (ValueType Label)) → map (λ (v : Variable). v.type) (variables ts) ≡ ts
+types_back : (ts : List (ValueType Label)) → map (λ (v : Variable). v.ty) (variables ts) ≡ ts
 types_back [] = refl
 types_back (t ∷ ts) = ap (λ (ts : List (ValueType Label)). t ∷ ts) (types_back ts)
 

@@ -1,10 +1,8 @@
 -- The fields of a module (W3C WebAssembly Core 1.0, section 6.6), gathered from its pieces.
 -- Names stand as they are written.
-use Rattle.std.specs.Prelude.{ℕ, Bool, true, false, List, [], ◌∷◌, Option, Some, None, unwrap_or}
+use Rattle.std.specs.Prelude.{ℕ, true, false, List, [], ◌∷◌, Option, Some, None, unwrap_or}
 use Rattle.ctw_ops.specs.declared.types.Label.{Label}
-use Rattle.ctw_ops.specs.declared.types.Trust.{Trust}
 use Rattle.ctw_ops.specs.declared.types.Trust.TheVariants.{Untrusted, Trusted}
-use Rattle.ctw_ops.specs.declared.types.ExternTag.{ExternTag}
 use Rattle.ctw_ops.specs.declared.types.ExternTag.TheVariants.{Func}
 use Rattle.ctw_ops.specs.ValueType.{ValueType}
 use Rattle.ctw_ops.specs.Code as ops
@@ -12,68 +10,16 @@ use Rattle.ctw_ops.specs.Code.{Leaf, Shape}
 use Rattle.ctw_text.specs.Keys as k
 use Rattle.ctw_text.specs.Keys.{Part, Param, Local, Indexed}
 use Rattle.ctw_text.specs.Toks.{Name}
-use Rattle.ctw_text.specs.Pieces.{Index, Role, OfOp, OfTarget, OfEntry, OfBase, OfExport, OfStart, OfTable, OfMemory, OfItem, Quoted, ExportName, InlineExport, ModuleName, ImportName, CustomName, Bytes, FieldKind, Piece, Begin, NameIs, KindIs, Quotes, Refers, Number, IsSecret, IsMutable, ValueIs, Entry, Trusting, Slot, Typed, Inline, Single, Branches, Indirect, Opens, Else, End, AtOffset, Aligned, Labelled, Yields, Repeats, Fold, Unfold}
-
--- a parameter or a local
-pub record Variable : Type 0 where
-  pub name : Option Name
-  pub type : ValueType Label
-
--- an entry that a typeuse names, with the offset of its `(`
-pub record Entry_ : Type 0 where
-  pub place : ℕ
-  pub index : Index
-
--- a typeuse, or the type of a type field
-pub record Use : Type 0 where
-  pub entry : Option Entry_
-  pub trust : Trust
-  pub params : List Variable
-  pub results : List (ValueType Label)
-
--- an instruction with its names
-pub data Raw : Type 0 where
-  RSingle : (leaf : Leaf Label) → Raw
-  RUses : (op : Indexed) (x : Index) → Raw
-  RTargets : (targets : List Index) → Raw
-  RIndirect : (sig : Use) → Raw
-  ROpens : (shape : Shape) (name : Option Name) (result : Option (ValueType Label)) → Raw
-  RElse REnd : (name : Option Name) → Raw
-
-pub data Item : Type 0 where
-  Op : (raw : Raw) → Item
-  -- the next instruction comes where this is closed
-  Folds Unfolds : Item
-
--- what is known of a field, and of an instruction that has not begun yet
-pub record Draft : Type 0 where
-  pub name : Option Name
-  pub exports : List (List ℕ)
-  pub from : Option (List ℕ)
-  pub imported : List ℕ
-  pub title : List ℕ
-  pub strings : List (List ℕ)
-  pub kind : ExternTag
-  pub target : Option Index
-  pub items : List Index
-  pub numbers : List ℕ
-  pub secret : Bool
-  pub mutable : Bool
-  pub inline : Bool
-  pub value : Option (ValueType Label)
-  pub sig : Use
-  pub locals : List Variable
-  pub code : List Item
-  -- of the next instruction
-  pub targets : List Index
-  pub offset : ℕ
-  pub align : Option ℕ
-  pub label : Option Name
-  pub yields : Option (ValueType Label)
-
-pub record Field : Type 0 where
-  pub kind : FieldKind
-  pub draft : Draft
+use Rattle.ctw_text.specs.Pieces.{Index, Role, OfOp, OfTarget, OfEntry, OfBase, OfExport, OfStart, OfTable, OfMemory, OfItem, Quoted, ExportName, InlineExport, ModuleName, ImportName, CustomName, Bytes, Piece, Begin, NameIs, KindIs, Quotes, Refers, Number, IsSecret, IsMutable, ValueIs, Entry, Trusting, Slot, Typed, Inline, Single, Branches, Indirect, Opens, Else, End, AtOffset, Aligned, Labelled, Yields, Repeats, Fold, Unfold}
+pub use Rattle.ctw_text.specs.declared.fields.Variable.{Variable}
+pub use Rattle.ctw_text.specs.declared.fields.NamedEntry.{NamedEntry as Entry_}
+pub use Rattle.ctw_text.specs.declared.fields.Use.{Use}
+pub use Rattle.ctw_text.specs.declared.fields.Raw.{Raw}
+pub use Rattle.ctw_text.specs.declared.fields.Raw.TheVariants.{Single as RSingle, Uses as RUses, Targets as RTargets, Indirect as RIndirect, Opens as ROpens, Else as RElse, End as REnd}
+pub use Rattle.ctw_text.specs.declared.fields.Item.{Item}
+pub use Rattle.ctw_text.specs.declared.fields.Item.TheVariants.{Op, Folds, Unfolds}
+pub use Rattle.ctw_text.specs.declared.fields.Draft.{Draft}
+pub use Rattle.ctw_text.specs.declared.fields.Field.{Field}
 
 abbrev pub no_use : Use
 no_use = record { entry = None; trust = Untrusted; params = []; results = [] }
@@ -136,9 +82,9 @@ refer OfTable x d = record d { target = Some x }
 refer OfMemory x d = record d { target = Some x }
 
 abbrev pub listed : Part → Option Name → ValueType Label → Draft → Draft
-listed Param n t d = record d { sig = record d.sig { params = record { name = n; type = t } ∷ d.sig.params } }
+listed Param n t d = record d { sig = record d.sig { params = record { name = n; ty = t } ∷ d.sig.params } }
 listed k.Result n t d = record d { sig = record d.sig { results = t ∷ d.sig.results } }
-listed Local n t d = record d { locals = record { name = n; type = t } ∷ d.locals }
+listed Local n t d = record d { locals = record { name = n; ty = t } ∷ d.locals }
 
 abbrev pub first_named : Name → List Variable → List Variable
 first_named w [] = []

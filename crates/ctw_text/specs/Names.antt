@@ -77,7 +77,7 @@ pub record WideEntry : Type 0 where
   pub type : Spelled
 
 abbrev pub spelled_type : Use → Spelled
-spelled_type u = record { trust = u.trust; params = map (λ (v : Variable). v.type) u.params; results = u.results }
+spelled_type u = record { trust = u.trust; params = map (λ (v : Variable). v.ty) u.params; results = u.results }
 
 abbrev pub no_type : Spelled
 no_type = record { trust = Untrusted; params = []; results = [] }
@@ -375,7 +375,7 @@ import_of S f = of (tag_of f) f.draft.from
 abbrev pub function_of : Space → Field → WideFunction
 function_of S f = record {
   type = entry_of S f.draft.sig;
-  locals = map (λ (v : Variable). v.type) f.draft.locals;
+  locals = map (λ (v : Variable). v.ty) f.draft.locals;
   code = ops_of (record { space = S; locals = local_names S f.draft }) [] (unfolded [] f.draft.code);
 }
 

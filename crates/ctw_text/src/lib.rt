@@ -2,6 +2,8 @@
 //! its grammar, the module that a text denotes, the first fault of a text that denotes none, and the printed text.
 #![tactic(auto)]
 
+mod fields;
+mod front;
 mod keys;
 pub mod laws;
 mod pieces;
@@ -9,6 +11,8 @@ mod sorts;
 mod toks;
 mod words;
 
+pub use fields::{Draft, Field, Item, NamedEntry, Raw, Use, Variable};
+pub use front::FrontList;
 pub use keys::{Form, Indexed, Key, Leaf, LeafKind, Opener, Part, Shape};
 pub use pieces::{FieldKind, Index, Name, Piece, Quote, Quoted, Role};
 pub use sorts::{Before, Filling, Place, Sort, Stage, Tail};

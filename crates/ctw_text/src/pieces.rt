@@ -1,7 +1,7 @@
 // A module as it is spelled, in the order of the text: names stand as they are written, and folded instructions where
 // they are.
 
-ghost use Rattle.std.specs.Prelude.{◌≡◌, ◌<◌, ◌^◌, IfOk, IsSome, Some};
+ghost use Rattle.std.specs.Prelude.{◌≡◌, ◌<◌, ◌^◌, [], IfOk, IsSome, Some};
 ghost use Rattle.ctw_lex.specs.declared.TokenKind.TheVariants.{Text};
 ghost use Rattle.ctw_lex.specs.Strings.{string_value};
 ghost use Rattle.ctw_text.specs.Written.{is_text};
@@ -99,6 +99,16 @@ impl<'a> Quote<'a> {
         let bytes = unescape(alloc, token)?;
         let utf8 = is_text(bytes.as_slice());
         Ok(Quote { text, utf8 })
+    }
+
+    /// The empty string.
+    pub fn empty() -> Quote<'a>
+        ensures { result ≡ [] }
+    {
+        Quote {
+            text: "\"\"",
+            utf8: true,
+        }
     }
 
     /// The same string again.
