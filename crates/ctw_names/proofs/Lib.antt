@@ -1,0 +1,13 @@
+pub mod Positions
+pub mod Opening
+pub mod Gathering
+pub mod Noting
+pub mod DoubleLaws
+pub mod Walks
+pub mod TypeLaws
+pub mod Bodies
+pub mod UseLaws
+pub mod FunctionFaults
+pub mod Places
+pub mod Modules
+pub mod Padding

@@ -1,0 +1,12 @@
+pub mod Noted
+pub mod Tables
+pub mod Open
+pub mod Pending
+pub mod Doubles
+pub mod TypeKeys
+pub mod EntryTables
+pub mod Spaces
+pub mod Ops
+pub mod Wides
+pub mod Third
+pub mod Known
