@@ -1,0 +1,4 @@
+pub mod Launch
+pub mod FewSites
+pub mod Marks
+pub mod UnderProfiles
