@@ -17,3 +17,5 @@ mod runs;
 mod sessions;
 #[cfg(test)]
 mod texts;
+#[cfg(test)]
+mod works;

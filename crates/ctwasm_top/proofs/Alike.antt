@@ -28,8 +28,9 @@ use Rattle.ctw_inputs.specs.Inputs.{NamedFile, at_most, module_limit, modules_li
 use Rattle.ctwasm_top.specs.Lines.{told_lines}
 use Rattle.ctwasm_top.specs.SessionWords.{OnceWords, RunWords, same_file, same_in_once, same_in_run}
 use Rattle.ctwasm_top.specs.Inference.{Found}
-use Rattle.ctwasm_top.specs.Words.{Command, Check, Canon, Text, Infer, Strip, Link, Run as Runs, Once, command_of, vault_in, vault_word}
-use Rattle.ctwasm_top.specs.Answer.{on_launch, ran, launched, unless_same, once_part, once_moves, once_answer, run_answer, on_words, answer, released_in, releases}
+use Rattle.ctwasm_top.specs.Words.{Command, Check, Canon, Text, Infer, Strip, Link, Run as Runs, Once, Work, command_of, vault_in, vault_word}
+use Rattle.ctwasm_top.specs.Launching.{on_launch}
+use Rattle.ctwasm_top.specs.Answer.{ran, launched, unless_same, once_part, once_moves, once_answer, run_answer, on_words, answer, released_in, releases}
 use Rattle.ctwasm_top.specs.Headline.{OtherVault, SameOutcome}
 
 -- the same is seen of both, where the same was released
@@ -188,6 +189,7 @@ words_alike reading found (Some (Text profile file)) vault f g e d = let n : Non
 words_alike reading found (Some (Infer profile file marks)) vault f g e d = let n : None ≡ Some vault = e in absurd cc
 words_alike reading found (Some (Strip profile file)) vault f g e d = let n : None ≡ Some vault = e in absurd cc
 words_alike reading found (Some (Link profile parts)) vault f g e d = let n : None ≡ Some vault = e in absurd cc
+words_alike reading found (Some (Work profile seed size)) vault f g e d = let n : None ≡ Some vault = e in absurd cc
 words_alike reading found (Some (Runs profile w)) vault f g e d = let n : Some w.vault ≡ Some vault = e in let q : w.vault ≡ vault = cc in run_alike f g profile reading w (subst (λ (v : List ℕ). OtherVault v f g) (sym q) d)
 words_alike reading found (Some (Once profile w)) vault f g e d = let n : Some w.vault ≡ Some vault = e in let q : w.vault ≡ vault = cc in once_alike f g profile w (subst (λ (v : List ℕ). OtherVault v f g) (sym q) d)
 

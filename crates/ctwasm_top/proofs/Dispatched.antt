@@ -16,12 +16,13 @@ use Rattle.ctwasm_top.specs.SessionWords.{RunWords}
 use Rattle.ctw_io.specs.Taken.{grown}
 use Rattle.ctw_marks.specs.declared.fault.MarkFault.TheVariants as mark
 use Rattle.ctw_infer.specs.declared.fault.InferFault.TheVariants as infer
-use Rattle.ctwasm_top.specs.Words.{Command, Infer, Run, LoadsFiles, command_of}
+use Rattle.ctwasm_top.specs.Words.{Command, Infer, Run, Work, LoadsFiles, command_of}
 use Rattle.ctwasm_top.specs.Inference.{Found}
 use Rattle.ctwasm_top.specs.Answer.{on_words, answer, ReadsScript, FindsMarks}
 use Rattle.ctwasm_top.specs.Findings.{OnSaid, SaysFiles}
 use Rattle.ctwasm_top.specs.Headline.{Did, DidTold, DidFound, HasCauses, IsAnswer, WroteNothing, SaysNothing}
 use Rattle.ctwasm_top.specs.ValidCalls.{HoldsScript}
+use Rattle.ctwasm_top.specs.WorkSteps.{DidWork}
 
 -- ---- the words of a command
 
@@ -70,6 +71,21 @@ says_inferred words files profile file marks e reading result (Err stop.ReadFaul
     says_command words files (Some (Infer profile file marks)) e reading nothing_found result (Err stop.ReadFault) before after taken took told unchanged (inr (want tt)) tt did
 says_inferred words files profile file marks e reading result (Err stop.NoMemory) before after taken took told unchanged is_so want did =
     says_command words files (Some (Infer profile file marks)) e reading nothing_found result (Err stop.NoMemory) before after taken took told unchanged (inr (want tt)) tt did
+
+-- what `work` did, which reads and changes no file
+pub did_work : (words : List (List ℕ)) (files : Files) (profile : Profile) (seed size : ℕ) → command_of words ≡ Some (Work profile seed size) → (reading : Result (List Move) ScriptFault) (result : Status) (before : Option Files) (taken took : Option (List ℕ)) → before ≡ Some files
+    → DidWork profile seed size result files taken took → DidFound words reading result files before taken took
+did_work words files profile seed size e reading result before taken took told d =
+    on_command words files (Some (Work profile seed size)) e reading d.found result before taken took d.is_so (record { files = d.did.files; told = told ∙ d.did.told; did = d.did.did })
+
+pub work_causes : (profile : Profile) (seed size : ℕ) (result : Status) (shelf out out_after : ℕ) (taken took : Option (List ℕ)) → (result ≡ status.WriteFault → Rose out out_after) → (result ≢ status.ReadFault) × (result ≢ status.SaveFault) × (result ≢ status.Usage)
+    → HasCauses (Some (Work profile seed size)) result shelf shelf out out_after taken took
+work_causes profile seed size result shelf out out_after taken took write quiet = record {
+  usage = λ e. absurd (quiet.2 e);
+  read = λ e. absurd (quiet.0 e);
+  write = write;
+  save = λ e. absurd (quiet.1 e);
+}
 
 pub settled_causes : (command : Option Command) (result : Status) (said : Result Saying Stop) (shelf shelf_after out out_after : ℕ) (taken took : Option (List ℕ)) → LoadsFiles command → HasReadCause shelf shelf_after said
     → (result ≡ status.ReadFault → (said ≡ Err stop.ReadFault) × (took ≡ taken)) → (result ≡ status.WriteFault → Rose out out_after) → (result ≢ status.SaveFault) × (result ≢ status.Usage)

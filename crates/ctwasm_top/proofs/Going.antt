@@ -27,7 +27,8 @@ use Rattle.ctw_inputs.specs.Inputs.{NamedFile, at_most, module_limit, modules_li
 use Rattle.ctwasm_top.proofs.Profiles.{spelled_under, valid_under}
 use Rattle.ctwasm_top.specs.ValidCalls.{HoldParts}
 use Rattle.ctwasm_top.specs.SessionWords.{OnceWords, RunWords, same_in_once, same_in_run}
-use Rattle.ctwasm_top.specs.Answer.{on_launch, unless_same, ran, launched, once_part, once_moves, once_answer, run_answer}
+use Rattle.ctwasm_top.specs.Launching.{on_launch}
+use Rattle.ctwasm_top.specs.Answer.{unless_same, ran, launched, once_part, once_moves, once_answer, run_answer}
 
 -- ---- the limits on a file
 

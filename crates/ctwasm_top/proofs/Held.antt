@@ -35,11 +35,14 @@ use Rattle.ctw_inputs.specs.Settling.{Reads}
 use Rattle.ctwasm_top.proofs.Profiles.{under_ok, spelled_under, valid_under, module_read_valid}
 use Rattle.ctwasm_top.specs.SessionWords.{OnceWords, RunWords, same_in_once, same_in_run}
 use Rattle.ctwasm_top.specs.Inference.{Found}
-use Rattle.ctwasm_top.specs.Words.{Command, Check, Canon, Text, Infer, Strip, Link, Run, Once, command_of}
+use Rattle.ctwasm_top.specs.Words.{Command, Check, Canon, Text, Infer, Strip, Link, Run, Once, Work, command_of}
 use Rattle.ctwasm_top.specs.Lines.{linked_line}
-use Rattle.ctwasm_top.specs.Answer.{spelled, printed, stripped, matched, on_launch, ran, launched, unless_same, once_part, once_moves, on_words, answer, ReadsScript, FindsMarks}
+use Rattle.ctwasm_top.specs.Launching.{on_launch}
+use Rattle.ctwasm_top.specs.Answer.{spelled, printed, stripped, matched, ran, launched, unless_same, once_part, once_moves, on_words, answer, ReadsScript, FindsMarks}
 use Rattle.ctwasm_top.specs.ValidCalls.{HoldsValid, HoldsModule, HoldParts, HoldsSet, HoldsSession, HoldsScript, HoldsInputs, IsSpelledAgain, IsPrinted, IsSpelledErased, WritesModule}
 use Rattle.ctwasm_top.proofs.There.{there, text_there}
+use Rattle.ctwasm_top.proofs.WorkWords.{IsFew, words_few}
+use Rattle.ctwasm_top.proofs.WorkRuns.{work_passed}
 use Rattle.ctwasm_top.proofs.Inferred.{infer_done, infer_passed}
 use Rattle.ctwasm_top.proofs.Going.{HoldBytes, file_goes, form_goes, fault_goes, load_goes, launch_goes, linked_goes, run_goes, once_goes}
 use Rattle.ctwasm_top.proofs.Dispatched.{script_reads}
@@ -236,6 +239,7 @@ module _ (files : Files) where
 
   command_held : (reading : Result (List Move) ScriptFault) (found : Found) (command : Option Command) → ReadsScript command files reading → FindsMarks command files found → (on_words files reading found command).status ≡ Done → HoldsInputs files command
   command_held reading found None reads finds e = let d : Usage ≡ Done = e in absurd cc
+  command_held reading found (Some (Work p seed size)) reads finds e = tt
   command_held reading found (Some (Check p name)) reads finds e = valid_done p name files (λ m. codes "ok\n") e
   command_held reading found (Some (Canon name)) reads finds e = canon_done name files e
   command_held reading found (Some (Text p name)) reads finds e = valid_done p name files (λ m. text_of_module m) e
@@ -274,6 +278,7 @@ module _ (files : Files) where
   command_written reading found (Some (Link p parts)) e = tt
   command_written reading found (Some (Run p w)) e = tt
   command_written reading found (Some (Once p w)) e = tt
+  command_written reading found (Some (Work p seed size)) e = tt
 
   -- what the bytes spell that were written
   pub module_written : (words : List (List ℕ)) (reading : Result (List Move) ScriptFault) (found : Found) → (answer words files reading found).status ≡ Done → WritesModule files (command_of words) (answer words files reading found).out
@@ -295,20 +300,22 @@ module _ (files : Files) where
   held_reads (Some (Link p parts)) h = tt
   held_reads (Some (Run p w)) h = script_reads p w files h.1
   held_reads (Some (Once p w)) h = tt
+  held_reads (Some (Work p seed size)) h = tt
 
-  command_passed : (found : Found) (command : Option Command) (h : HoldsInputs files command) → FindsMarks command files found → (on_words files (held_reading command h) found command).status ≢ Refused
+  command_passed : (found : Found) (command : Option Command) (h : HoldsInputs files command) → IsFew command → FindsMarks command files found → (on_words files (held_reading command h) found command).status ≢ Refused
   unfolding vault_limit
-  command_passed found None h finds = absurd h
-  command_passed found (Some (Check p name)) h finds = not_both _ (valid_holds p name files (λ m. codes "ok\n") h)
-  command_passed found (Some (Canon name)) h finds = not_both _ (ap (λ (a : Outcome). a.status) (canon_given name files h))
-  command_passed found (Some (Text p name)) h finds = not_both _ (valid_holds p name files (λ m. text_of_module m) h)
-  command_passed found (Some (Infer p name marks)) h finds = infer_passed files found p name marks h finds
-  command_passed found (Some (Strip p name)) h finds = not_both _ (valid_holds p name files (λ m. canon (erase_module m)) h)
-  command_passed found (Some (Link p parts)) h finds = not_both _ (link_holds p files parts h)
-  command_passed found (Some (Run p w)) h finds = not_both _ (run_done p files w h.1 h.0 h.2)
-  command_passed found (Some (Once p w)) h finds = not_both _ (once_done p files w h.0 h.1)
+  command_passed found None h small finds = absurd h
+  command_passed found (Some (Work p seed size)) h small finds = work_passed p seed size small.1 found finds
+  command_passed found (Some (Check p name)) h small finds = not_both _ (valid_holds p name files (λ m. codes "ok\n") h)
+  command_passed found (Some (Canon name)) h small finds = not_both _ (ap (λ (a : Outcome). a.status) (canon_given name files h))
+  command_passed found (Some (Text p name)) h small finds = not_both _ (valid_holds p name files (λ m. text_of_module m) h)
+  command_passed found (Some (Infer p name marks)) h small finds = infer_passed files found p name marks h finds
+  command_passed found (Some (Strip p name)) h small finds = not_both _ (valid_holds p name files (λ m. canon (erase_module m)) h)
+  command_passed found (Some (Link p parts)) h small finds = not_both _ (link_holds p files parts h)
+  command_passed found (Some (Run p w)) h small finds = not_both _ (run_done p files w h.1 h.0 h.2)
+  command_passed found (Some (Once p w)) h small finds = not_both _ (once_done p files w h.0 h.1)
 
   -- no files that hold what the command asks for are refused
   pub inputs_passed : (words : List (List ℕ)) (found : Found) (h : HoldsInputs files (command_of words)) → FindsMarks (command_of words) files found → (answer words files (held_reading (command_of words) h) found).status ≢ Refused
   unfolding answer
-  inputs_passed words found h finds = command_passed found (command_of words) h finds
+  inputs_passed words found h finds = command_passed found (command_of words) h (words_few words) finds

@@ -40,7 +40,8 @@ use Rattle.ctw_inputs.specs.Outcome.{Outcome, ends}
 use Rattle.ctw_inputs.specs.Inputs.{module_limit, marks_limit, on_file, on_text, read_valid, module_under}
 use Rattle.ctwasm_top.specs.Words.{Command, Infer, command_of}
 use Rattle.ctwasm_top.specs.Marked.{HoldsMarked}
-use Rattle.ctwasm_top.specs.Inference.{Found, IsFound, ReadsMarks, LabelsModule, asked, on_labels, on_marks, inferred}
+use Rattle.ctw_write.specs.Canon.{canon}
+use Rattle.ctwasm_top.specs.Inference.{Found, IsFound, ReadsMarks, LabelsModule, asked, placed_by, on_labelling, on_labels, on_marks, inferred}
 use Rattle.ctwasm_top.specs.Answer.{infer_answer, answer, on_words, ReadsScript, FindsMarks}
 use Rattle.ctwasm_top.specs.ValidCalls.{HoldsInference}
 use Rattle.ctwasm_top.specs.Headline.{DidFound, HasInferred, DidInfer, ByMarks, BadMarks, IsAnswer}
@@ -76,6 +77,26 @@ refused_is_done e = cc
 
 flow_is_done : NoLabelling ≡ Done → ⊥
 flow_is_done e = cc
+
+-- ---- where nothing is refused
+
+pub refused_done : Done ≡ Refused → ⊥
+refused_done e = cc
+
+refused_flow : NoLabelling ≡ Refused → ⊥
+refused_flow e = cc
+
+none_misused : {A : Type 0} (xs : List A) (x : A) → xs ≡ [] → slice_get xs 0 ≡ Some x → ⊥
+none_misused xs x e f = none-some x (ap (λ l. slice_get l 0) (sym e) ∙ f)
+
+pub labels_passed : (m : Module Label) (k : MarkList) → m.ct ≡ false → length (sites m) ≤ most_sites → IsKept m k.points → (go : List Label → Outcome) → ((labels : List Label) → LabelsModule m k (Ok labels) → (go labels).status ≢ Refused) → (r : Result (List Label) InferFault) → LabelsModule m k r → (on_labelling m r go).status ≢ Refused
+labels_passed m k plain few kept go passes (Ok labels) h = passes labels h
+labels_passed m k plain few kept go passes (Err infer.Labelled) h = let e : false ≡ true = sym plain ∙ h.0 in absurd cc
+labels_passed m k plain few kept go passes (Err (infer.TooManySites count)) h = absurd (omega (arith, few, h.0.1))
+labels_passed m k plain few kept go passes (Err (infer.TrustCall caller at callee)) h = absurd (none_misused (misused_calls m k.points) _ (kept_clear m k.points kept).0 h.0.1)
+labels_passed m k plain few kept go passes (Err (infer.TrustTable func)) h = absurd (none_misused (misused_entries m k.points) _ (kept_clear m k.points kept).1 h.0.1.1)
+labels_passed m k plain few kept go passes (Err (infer.Flow w)) h = refused_flow
+labels_passed m k plain few kept go passes (Err infer.NoMemory) h = absurd (h.1 refl)
 
 -- ---- over files that hold a plain module and marks
 
@@ -153,26 +174,6 @@ module _ (files : Files) (found : Found) (profile : Profile) (name marks : List 
         kept = least.1.fits.kept;
       }
 
-  -- ---- where nothing is refused
-
-  refused_done : Done ≡ Refused → ⊥
-  refused_done e = cc
-
-  refused_flow : NoLabelling ≡ Refused → ⊥
-  refused_flow e = cc
-
-  none_misused : {A : Type 0} (xs : List A) (x : A) → xs ≡ [] → slice_get xs 0 ≡ Some x → ⊥
-  none_misused xs x e f = none-some x (ap (λ l. slice_get l 0) (sym e) ∙ f)
-
-  labels_passed : (m : Module Label) (k : MarkList) → m.ct ≡ false → length (sites m) ≤ most_sites → IsKept m k.points → (r : Result (List Label) InferFault) → LabelsModule m k r → (on_labels m k r).status ≢ Refused
-  labels_passed m k plain few kept (Ok labels) h = refused_done
-  labels_passed m k plain few kept (Err infer.Labelled) h = let e : false ≡ true = sym plain ∙ h.0 in absurd cc
-  labels_passed m k plain few kept (Err (infer.TooManySites count)) h = absurd (omega (arith, few, h.0.1))
-  labels_passed m k plain few kept (Err (infer.TrustCall caller at callee)) h = absurd (none_misused (misused_calls m k.points) _ (kept_clear m k.points kept).0 h.0.1)
-  labels_passed m k plain few kept (Err (infer.TrustTable func)) h = absurd (none_misused (misused_entries m k.points) _ (kept_clear m k.points kept).1 h.0.1.1)
-  labels_passed m k plain few kept (Err (infer.Flow w)) h = refused_flow
-  labels_passed m k plain few kept (Err infer.NoMemory) h = absurd (h.1 refl)
-
   pub infer_passed : (h : HoldsInference files profile name marks) → FindsMarks (Some (Infer profile name marks)) files found → (infer_answer files found profile name marks).status ≢ Refused
   infer_passed h finds =
       let m = under profile h.held.tree in
@@ -182,7 +183,7 @@ module _ (files : Files) (found : Found) (profile : Profile) (name marks : List 
       on : (r : Result MarkList MarkFault) → found.marks ≡ r → ReadsMarks (under profile h.held.tree) h.held.text r → (on_marks r (λ k. on_labels (under profile h.held.tree) k found.labels)).status ≢ Refused
       on (Ok k) e read =
           let same = h.read.only k read.reading in
-          labels_passed (under profile h.held.tree) k h.held.plain h.few (same_kept h.marks_of.points k.points (λ f. sym (same.trusted f)) (under profile h.held.tree) h.kept) found.labels ((finds h.held).labelled k e)
+          labels_passed (under profile h.held.tree) k h.held.plain h.few (same_kept h.marks_of.points k.points (λ f. sym (same.trusted f)) (under profile h.held.tree) h.kept) (λ labels. ends Done (canon (placed_by (under profile h.held.tree) k labels))) (λ labels l. refused_done) found.labels ((finds h.held).labelled k e)
       on (Err fault) e read = absurd (read.0.unread read.1 h.marks_of h.read.reading)
 
 -- ---- what was done

@@ -18,7 +18,6 @@ use Rattle.ctw_marks.specs.declared.fault.MarkFault.TheVariants as mark
 use Rattle.ctw_marks.specs.Readings.{MarkList, HasReading, HasFault}
 use Rattle.ctw_infer.specs.declared.fault.InferFault.{InferFault}
 use Rattle.ctw_infer.specs.declared.fault.InferFault.TheVariants as infer
-use Rattle.ctw_infer.specs.Answers.{IsInferable}
 use Rattle.ctw_witness.specs.Lines.{flow_text}
 use Rattle.ctw_lines.specs.Lines.{marks_line, infer_line}
 use Rattle.ctw_inputs.specs.Saying.{Saying}
@@ -29,8 +28,8 @@ use Rattle.ctw_inputs.specs.declared.said.Stop.TheVariants as stop
 use Rattle.ctw_inputs.specs.Outcome.{Outcome, ends}
 use Rattle.ctw_inputs.specs.Inputs.{module_limit, marks_limit, on_text, load, read_valid}
 use Rattle.ctw_inputs.specs.Settling.{IsStop, SaysAll}
-use Rattle.ctwasm_top.specs.Inference.{Found, IsLeast, IsFound, LabelsModule, placed_by, on_labels, on_marks, inferred}
-use Rattle.ctwasm_top.specs.Findings.{OnSaid, SaysLabels, SaysModule, SaysBytes, SaysFiles}
+use Rattle.ctwasm_top.specs.Inference.{Found, IsFound, LabelsModule, placed_by, on_labelling, on_marks, labelled_by, inferred}
+use Rattle.ctwasm_top.specs.Findings.{OnSaid, SaysNone, GivesLabels, SaysOther, FindsLabels, SaysModule, SaysBytes, SaysFiles}
 use Rattle.ctw_modcheck.proofs.Validity.{valid_is_none}
 use Rattle.ctwasm_top.proofs.Profiles.{under_ok, module_read_valid}
 use Rattle.ctwasm_top.proofs.There.{there, text_there}
@@ -38,22 +37,22 @@ use Rattle.ctwasm_top.proofs.Dispatched.{nothing_found}
 
 -- ---- what is said
 
-says : (status : Status) (said : Saying) (text wanted : List ℕ) → said ≡ record { status = status; text = text } → text ≡ wanted → SaysAll said (ends status wanted)
+pub says : (status : Status) (said : Saying) (text wanted : List ℕ) → said ≡ record { status = status; text = text } → text ≡ wanted → SaysAll said (ends status wanted)
 says status said text wanted e t = ap (ends status) (sym t) ∙ ap (λ (s : Saying). ends s.status s.text) (sym e)
 
-on_said : (P Q : Saying → Type 0) (r : Result Saying Stop) → ((said : Saying) → P said → Q said) → OnSaid r P → OnSaid r Q
+pub on_said : (P Q : Saying → Type 0) (r : Result Saying Stop) → ((said : Saying) → P said → Q said) → OnSaid r P → OnSaid r Q
 on_said P Q (Ok said) f h = f said h
 on_said P Q (Err (stop.Says said)) f h = f said h
 on_said P Q (Err stop.ReadFault) f h = tt
 on_said P Q (Err stop.NoMemory) f h = tt
 
-on_stop : (Q : Saying → Type 0) (why : Stop) (o : Outcome) → ((said : Saying) → SaysAll said o → Q said) → IsStop why o → OnSaid (Err why) Q
+pub on_stop : (Q : Saying → Type 0) (why : Stop) (o : Outcome) → ((said : Saying) → SaysAll said o → Q said) → IsStop why o → OnSaid (Err why) Q
 on_stop Q (stop.Says said) o f h = f said h
 on_stop Q stop.ReadFault o f h = tt
 on_stop Q stop.NoMemory o f h = tt
 
 -- a step that stops, whatever comes behind it
-on_stops : {S : Type 0} (Q : Saying → Type 0) (why : Stop) (step : (S → Outcome) → Outcome) → ((said : Saying) → ((go : S → Outcome) → SaysAll said (step go)) → Q said) → ((go : S → Outcome) → IsStop why (step go)) → OnSaid (Err why) Q
+pub on_stops : {S : Type 0} (Q : Saying → Type 0) (why : Stop) (step : (S → Outcome) → Outcome) → ((said : Saying) → ((go : S → Outcome) → SaysAll said (step go)) → Q said) → ((go : S → Outcome) → IsStop why (step go)) → OnSaid (Err why) Q
 on_stops Q (stop.Says said) step f h = f said h
 on_stops Q stop.ReadFault step f h = tt
 on_stops Q stop.NoMemory step f h = tt
@@ -62,7 +61,7 @@ done_refused : Done ≡ Refused → ⊥
 done_refused e = cc
 
 -- no step both goes on and stops
-stops_or_goes : {S : Type 0} (step : (S → Outcome) → Outcome) (x : S) (said : Saying) → ((go : S → Outcome) → step go ≡ go x) → ((go : S → Outcome) → SaysAll said (step go)) → ⊥
+pub stops_or_goes : {S : Type 0} (step : (S → Outcome) → Outcome) (x : S) (said : Saying) → ((go : S → Outcome) → step go ≡ go x) → ((go : S → Outcome) → SaysAll said (step go)) → ⊥
 stops_or_goes step x said goes stops =
     let a : ends Done [] ≡ ends said.status said.text = sym (goes (λ y. ends Done [])) ∙ stops (λ y. ends Done []) in
     let b : ends Refused [] ≡ ends said.status said.text = sym (goes (λ y. ends Refused [])) ∙ stops (λ y. ends Refused []) in
@@ -75,21 +74,18 @@ same_bytes step x y f g = ap (λ (o : Outcome). o.out) (sym (f (ends Done)) ∙ 
 -- ---- by sites
 
 module _ (m : Module Label) (marks : MarkList) where
-  pub labels_placed : (labels : List Label) (said : Saying) (bytes : List ℕ) → IsInferable m → IsLeast m marks labels → said ≡ record { status = Done; text = bytes } → bytes ≡ canon (placed_by m marks labels) → SaysLabels m marks said
-  labels_placed labels said bytes i least e b = record { labels = Ok labels; labelled = (i, least); says = says Done said bytes (canon (placed_by m marks labels)) e b }
+  pub labels_flow : (w : Flow) (said : Saying) (text : List ℕ) → LabelsModule m marks (Err (infer.Flow w)) → said ≡ record { status = NoLabelling; text = text } → text ≡ flow_text (sites m) w → GivesLabels m marks (Err (stop.Says said))
+  labels_flow w said text h e t = record { fault = infer.Flow w; refused = h; says = λ go. says NoLabelling said text (flow_text (sites m) w) e t }
 
-  pub labels_flow : (w : Flow) (said : Saying) (text : List ℕ) → LabelsModule m marks (Err (infer.Flow w)) → said ≡ record { status = NoLabelling; text = text } → text ≡ flow_text (sites m) w → SaysLabels m marks said
-  labels_flow w said text h e t = record { labels = Err (infer.Flow w); labelled = h; says = says NoLabelling said text (flow_text (sites m) w) e t }
-
-  pub labels_refused : (fault : InferFault) (why : Stop) → LabelsModule m marks (Err fault) → on_labels m marks (Err fault) ≡ ends Refused (infer_line fault) → IsStop why (ends Refused (infer_line fault)) → OnSaid (Err why) (SaysLabels m marks)
-  labels_refused fault why h e is = on_stop (SaysLabels m marks) why (ends Refused (infer_line fault)) (λ said s. record { labels = Err fault; labelled = h; says = e ∙ s }) is
+  pub labels_none : (fault : InferFault) (why : Stop) → LabelsModule m marks (Err fault) → ((go : List Label → Outcome) → IsStop why (on_labelling m (Err fault) go)) → GivesLabels m marks (Err why)
+  labels_none fault why h is = on_stops (SaysNone m marks) why (on_labelling m (Err fault)) (λ said s. record { fault = fault; refused = h; says = s }) is
 
 -- ---- by a text
 
 module _ (m : Module Label) (text : List ℕ) where
   -- what is done with the marks of a plain module
-  plain_goes : (found : Found) → m.ct ≡ false → inferred found m ≡ on_marks found.marks (λ k. on_labels m k found.labels)
-  plain_goes found e = ap (λ b. cond b (ends Refused (infer_line infer.Labelled)) (on_marks found.marks (λ k. on_labels m k found.labels))) e
+  plain_goes : (found : Found) (go : MarkList → List Label → Outcome) → m.ct ≡ false → labelled_by found m go ≡ on_marks found.marks (λ k. on_labelling m found.labels (go k))
+  plain_goes found go e = ap (λ b. cond b (ends Refused (infer_line infer.Labelled)) (on_marks found.marks (λ k. on_labelling m found.labels (go k)))) e
 
   found_labels : (k : MarkList) (labels : Result (List Label) InferFault) → HasReading m text k → LabelsModule m k labels → IsFound m text (record { marks = Ok k; labels = labels })
   found_labels k labels read h = record {
@@ -97,39 +93,50 @@ module _ (m : Module Label) (text : List ℕ) where
     labelled = λ marks e. let same : k ≡ marks = cc in subst (λ (x : MarkList). LabelsModule m x labels) same h;
   }
 
-  pub module_labelled : (r : Result Saying Stop) (k : MarkList) → m.ct ≡ false → HasReading m text k → OnSaid r (SaysLabels m k) → OnSaid r (SaysModule m text)
-  module_labelled r k plain read h = on_said (SaysLabels m k) (SaysModule m text) r (λ said l. record {
-    found = record { marks = Ok k; labels = l.labels };
-    is_so = λ e. found_labels k l.labels read l.labelled;
-    says = plain_goes (record { marks = Ok k; labels = l.labels }) plain ∙ l.says;
+  pub text_labelled : (k : MarkList) (labels : List Label) → m.ct ≡ false → HasReading m text k → LabelsModule m k (Ok labels) → FindsLabels m text k labels
+  text_labelled k labels plain read h = record { plain = plain; found = found_labels k (Ok labels) read h }
+
+  pub text_none : (k : MarkList) (why : Stop) → m.ct ≡ false → HasReading m text k → GivesLabels m k (Err why) → OnSaid (Err why) (SaysOther m text)
+  text_none k why plain read h = on_said (SaysNone m k) (SaysOther m text) (Err why) (λ said n. record {
+    found = record { marks = Ok k; labels = Err n.fault };
+    is_so = λ e. found_labels k (Err n.fault) read n.refused;
+    says = λ go. plain_goes (record { marks = Ok k; labels = Err n.fault }) go plain ∙ n.says (go k);
   }) h
 
-  pub module_refused : (k : MarkList) (fault : InferFault) (why : Stop) → m.ct ≡ false → HasReading m text k → LabelsModule m k (Err fault) → on_labels m k (Err fault) ≡ ends Refused (infer_line fault) → IsStop why (ends Refused (infer_line fault)) → OnSaid (Err why) (SaysModule m text)
-  module_refused k fault why plain read h e is = module_labelled (Err why) k plain read (labels_refused m k fault why h e is)
-
-  pub module_unread : (fault : MarkFault) (why : Stop) → m.ct ≡ false → HasFault m text fault → fault ≢ mark.NoMemory → IsStop why (ends Refused (marks_line fault)) → OnSaid (Err why) (SaysModule m text)
-  module_unread fault why plain h want is = on_stop (SaysModule m text) why (ends Refused (marks_line fault)) (λ said s. record {
+  pub text_unread : (fault : MarkFault) (why : Stop) → m.ct ≡ false → HasFault m text fault → fault ≢ mark.NoMemory → IsStop why (ends Refused (marks_line fault)) → OnSaid (Err why) (SaysOther m text)
+  text_unread fault why plain h want is = on_stop (SaysOther m text) why (ends Refused (marks_line fault)) (λ said s. record {
     found = record { marks = Err fault; labels = Err infer.NoMemory };
     is_so = λ e. record { read = (h, want); labelled = λ k q. absurd (err_ok q) };
-    says = plain_goes (record { marks = Err fault; labels = Err infer.NoMemory }) plain ∙ s;
+    says = λ go. plain_goes (record { marks = Err fault; labels = Err infer.NoMemory }) go plain ∙ s;
   }) is
     where
       err_ok : {k : MarkList} → Err fault ≡ Ok k → ⊥
       err_ok q = cc
 
-  pub module_with_labels : (why : Stop) → m.ct ≡ true → IsStop why (ends Refused (infer_line infer.Labelled)) → OnSaid (Err why) (SaysModule m text)
-  module_with_labels why ct is = on_stop (SaysModule m text) why (ends Refused (infer_line infer.Labelled)) (λ said s. record {
+  pub text_with_labels : (why : Stop) → m.ct ≡ true → IsStop why (ends Refused (infer_line infer.Labelled)) → OnSaid (Err why) (SaysOther m text)
+  text_with_labels why ct is = on_stop (SaysOther m text) why (ends Refused (infer_line infer.Labelled)) (λ said s. record {
     found = nothing_found;
     is_so = λ e. absurd (true_false (sym ct ∙ e));
-    says = ap (λ b. cond b (ends Refused (infer_line infer.Labelled)) (on_marks nothing_found.marks (λ k. on_labels m k nothing_found.labels))) ct ∙ s;
+    says = λ go. ap (λ b. cond b (ends Refused (infer_line infer.Labelled)) (on_marks nothing_found.marks (λ k. on_labelling m nothing_found.labels (go k)))) ct ∙ s;
   }) is
     where
       true_false : true ≡ false → ⊥
       true_false q = cc
 
+  -- what `infer` says of a labelling
+  pub module_placed : (k : MarkList) (labels : List Label) (said : Saying) (bytes : List ℕ) → FindsLabels m text k labels → said ≡ record { status = Done; text = bytes } → bytes ≡ canon (placed_by m k labels) → SaysModule m text said
+  module_placed k labels said bytes h e b = record {
+    found = record { marks = Ok k; labels = Ok labels };
+    is_so = λ q. h.found;
+    says = plain_goes (record { marks = Ok k; labels = Ok labels }) (λ k labels. ends Done (canon (placed_by m k labels))) h.plain ∙ says Done said bytes (canon (placed_by m k labels)) e b;
+  }
+
+  pub module_other : (why : Stop) → OnSaid (Err why) (SaysOther m text) → OnSaid (Err why) (SaysModule m text)
+  module_other why h = on_said (SaysOther m text) (SaysModule m text) (Err why) (λ said o. record { found = o.found; is_so = o.is_so; says = o.says (λ k labels. ends Done (canon (placed_by m k labels))) }) h
+
 -- ---- by the bytes of files
 
-ok_same : (a b : Module Label) (r : Result (Module Label) FormFault) → r ≡ Ok a → r ≡ Ok b → a ≡ b
+pub ok_same : (a b : Module Label) (r : Result (Module Label) FormFault) → r ≡ Ok a → r ≡ Ok b → a ≡ b
 ok_same a b (Ok m) e f = let x : m ≡ a = cc in let y : m ≡ b = cc in sym x ∙ y
 ok_same a b (Err fault) e f = cc
 

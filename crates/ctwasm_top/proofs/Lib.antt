@@ -16,3 +16,9 @@ pub mod Held
 pub mod Alike
 pub mod Stripped
 pub mod Untrusted
+pub mod Counted
+pub mod Worked
+pub mod WorkFacts
+pub mod WorkDone
+pub mod WorkWords
+pub mod WorkRuns

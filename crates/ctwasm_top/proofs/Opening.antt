@@ -15,7 +15,7 @@ use Rattle.ctw_inputs.specs.declared.said.Status.TheVariants.{Refused}
 use Rattle.ctw_inputs.specs.Outcome.{Outcome, ends}
 use Rattle.ctw_inputs.specs.Settling.{IsStop}
 use Rattle.ctwasm_top.specs.Lines.{launch_line}
-use Rattle.ctwasm_top.specs.Answer.{on_launch}
+use Rattle.ctwasm_top.specs.Launching.{on_launch}
 use Rattle.ctwasm_top.specs.Sessions.{Opens}
 
 -- the parts are launched

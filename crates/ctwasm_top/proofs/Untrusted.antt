@@ -26,9 +26,9 @@ use Rattle.ctw_link.proofs.LinkedFronts.{bare, bare_linked}
 use Rattle.ctw_launch.proofs.Within.{all_unmap, all_flat}
 use Rattle.ctw_semantics.specs.Modules.{instance_of}
 use Rattle.ctw_inputs.specs.Outcome.{Execution}
-use Rattle.ctwasm_top.specs.Words.{vault_word}
+use Rattle.ctwasm_top.specs.Words.{Command, Check, Canon, Text, Infer, Strip, Link, Run, Once, Work, command_of, vault_in, vault_word}
 use Rattle.ctwasm_top.specs.Inference.{Found, IsPlacedUntrusted}
-use Rattle.ctwasm_top.specs.Answer.{answer, released_in, releases}
+use Rattle.ctwasm_top.specs.Answer.{answer, released_in, releases, FindsMarks}
 use Rattle.ctwasm_top.specs.Headline.{AreOctets, OtherVault, SameOutcome, ExecutesUntrusted}
 use Rattle.ctwasm_top.proofs.Alike.{answer_alike}
 use Rattle.ctwasm_top.proofs.Stripped.{none_released}
@@ -64,14 +64,27 @@ set_untrusted set h =
     all_flat (λ fn. fn.type.trust ≡ Untrusted) instances_in (linked set) (All-weaker (λ q. HasNoTrust q.tree) (λ q. AllUntrusted (instances_in q)) part_untrusted (linked set) parts)
 
 -- what is executed of them releases nothing
-nothing_released : (words : List (List ℕ)) (files : Files) (octets : AreOctets files) (reading : Result (List Move) ScriptFault) (found : Found) (o : Option Execution) → (answer words files reading found).execution ≡ o → ExecutesUntrusted o → released_in o ≡ []
-nothing_released words files octets reading found None q h = refl
-nothing_released words files octets reading found (Some e) q h = none_released files octets e words reading found h.1 (set_untrusted e.set h.0) q
+nothing_released : (words : List (List ℕ)) (files : Files) (octets : AreOctets files) (reading : Result (List Move) ScriptFault) (found : Found) → FindsMarks (command_of words) files found → (o : Option Execution) → (answer words files reading found).execution ≡ o → ExecutesUntrusted o → released_in o ≡ []
+nothing_released words files octets reading found finds None q h = refl
+nothing_released words files octets reading found finds (Some e) q h = none_released files octets e words reading found finds h.1 (set_untrusted e.set h.0) q
+
+-- no command with a vault names marks
+vault_finds : (files : Files) (found : Found) (o : Option Command) (vault : List ℕ) → vault_in o ≡ Some vault → FindsMarks o files found
+vault_finds files found None vault e = tt
+vault_finds files found (Some (Check p file)) vault e = tt
+vault_finds files found (Some (Canon file)) vault e = tt
+vault_finds files found (Some (Text p file)) vault e = tt
+vault_finds files found (Some (Infer p file marks)) vault e = let d : None ≡ Some vault = e in absurd cc
+vault_finds files found (Some (Strip p file)) vault e = tt
+vault_finds files found (Some (Link p parts)) vault e = tt
+vault_finds files found (Some (Run p w)) vault e = tt
+vault_finds files found (Some (Once p w)) vault e = tt
+vault_finds files found (Some (Work p seed size)) vault e = let d : None ≡ Some vault = e in absurd cc
 
 -- so the answer keeps every secret
 pub inferred_keep : (words : List (List ℕ)) (files others : Files) (reading : Result (List Move) ScriptFault) (found : Found) (vault : List ℕ) → AreOctets files → AreOctets others → vault_word words ≡ Some vault → OtherVault vault files others
     → ExecutesUntrusted (answer words files reading found).execution → ExecutesUntrusted (answer words others reading found).execution → SameOutcome (answer words others reading found) (answer words files reading found)
 inferred_keep words files others reading found vault f g word other own theirs =
-    let a : releases words others reading found ≡ [] = nothing_released words others g reading found (answer words others reading found).execution refl theirs in
-    let b : releases words files reading found ≡ [] = nothing_released words files f reading found (answer words files reading found).execution refl own in
+    let a : releases words others reading found ≡ [] = nothing_released words others g reading found (vault_finds others found (command_of words) vault word) (answer words others reading found).execution refl theirs in
+    let b : releases words files reading found ≡ [] = nothing_released words files f reading found (vault_finds files found (command_of words) vault word) (answer words files reading found).execution refl own in
     answer_alike words reading found vault files others word other (a ∙ sym b)

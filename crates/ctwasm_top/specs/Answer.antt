@@ -7,6 +7,7 @@ use Rattle.ctw_ops.specs.declared.numeric.Profile.{Profile}
 use Rattle.ctw_ops.specs.Tree.{under}
 use Rattle.ctw_ops.specs.Erasure.{erase_module}
 use Rattle.ctw_ops.specs.Limits.{most_steps}
+use Rattle.ctw_script.specs.declared.moves.Arg.{Arg}
 use Rattle.ctw_script.specs.declared.moves.Move.{Move}
 use Rattle.ctw_script.specs.declared.moves.Move.TheVariants.{Begin, Turn}
 use Rattle.ctw_script.specs.declared.script.ScriptFault.{ScriptFault}
@@ -16,17 +17,21 @@ use Rattle.ctw_link.specs.Sets.{ModuleSet}
 use Rattle.ctw_io.specs.Files.{Files}
 use Rattle.ctw_moves.specs.States.{State}
 use Rattle.ctw_moves.specs.Runs.{plays}
-use Rattle.ctw_moves.specs.LaunchedStates.{Launch, Ready, Faulty, launch}
-use Rattle.ctw_inputs.specs.declared.said.Status.TheVariants.{Done, Refused, Usage}
+use Rattle.ctw_moves.specs.LaunchedStates.{launch}
+use Rattle.ctw_gen.specs.Workload.{marks}
+use Rattle.ctw_workloads.specs.Placed.{workload_under}
+use Rattle.ctw_inputs.specs.declared.said.Status.TheVariants.{Done, Usage}
 use Rattle.ctw_inputs.specs.Outcome.{Execution, Outcome, ends}
 use Rattle.ctw_inputs.specs.Inputs.{NamedFile, module_limit, modules_limit, script_limit, marks_limit, vault_limit, refuses, load, load_modules, on_text, on_moves, read, read_valid, linked}
 use Rattle.ctw_inputs.specs.Settling.{Reads}
-use Rattle.ctwasm_top.specs.Lines.{linked_line, launch_line, told_lines}
+use Rattle.ctwasm_top.specs.Lines.{linked_line, told_lines}
 use Rattle.ctwasm_top.specs.Usage.{usage_text}
 use Rattle.ctwasm_top.specs.SessionWords.{OnceWords, RunWords, same_in_once, same_in_run}
-use Rattle.ctwasm_top.specs.Words.{Command, Check, Canon, Text, Infer, Strip, Link, Run, Once, command_of}
+use Rattle.ctwasm_top.specs.Words.{Command, Check, Canon, Text, Infer, Strip, Link, Run, Once, Work, command_of}
 use Rattle.ctwasm_top.specs.Inference.{Found, inferred, IsFound}
 use Rattle.ctwasm_top.specs.Marked.{HoldsMarked}
+use Rattle.ctwasm_top.specs.Launching.{on_launch}
+use Rattle.ctwasm_top.specs.Works.{work_answer}
 
 -- ---- the commands `check`, `canon`, `text`, `strip` and `link`
 
@@ -56,11 +61,6 @@ infer_answer files found profile file marks_file =
 
 -- ---- the commands `run` and `once`
 
--- goes on where the set is launched
-abbrev pub on_launch : Launch → (State → Outcome) → Outcome
-on_launch (Ready s) go = go s
-on_launch (Faulty fault) go = ends Refused (launch_line fault)
-
 -- all moves are made; what they tell is written, and what they seal is saved
 abbrev pub ran : List ℕ → List Move → ModuleSet → State → Outcome
 ran sealed moves set s = record {
@@ -83,8 +83,12 @@ unless_same None go = go
 abbrev pub once_part : OnceWords → NamedFile
 once_part w = record { name = codes "m"; file = w.module_file }
 
+-- an export of the part `m` is called, and takes as many steps as a turn may
+abbrev pub call_of : List ℕ → List Arg → List Move
+call_of export arguments = Begin 0 (codes "m") export arguments ∷ Turn 0 most_steps ∷ []
+
 abbrev pub once_moves : OnceWords → List Move
-once_moves w = Begin 0 (codes "m") w.export w.arguments ∷ Turn 0 most_steps ∷ []
+once_moves w = call_of w.export w.arguments
 
 abbrev pub once_answer : Files → Profile → OnceWords → Outcome
 once_answer files profile w =
@@ -113,6 +117,7 @@ command_answer files reading found (Strip profile file) = load files file module
 command_answer files reading found (Link profile parts) = load_modules files modules_limit parts (matched profile parts)
 command_answer files reading found (Run profile w) = run_answer files profile reading w
 command_answer files reading found (Once profile w) = once_answer files profile w
+command_answer files reading found (Work profile seed size) = work_answer found profile seed size
 
 abbrev pub on_words : Files → Result (List Move) ScriptFault → Found → Option Command → Outcome
 on_words files reading found None = ends Usage usage_text
@@ -130,10 +135,11 @@ ReadsScript (Some (Run profile w)) files reading =
 ReadsScript command files reading = Unit {0}
 
 -- The finding on the marks that a command names: the files are there and within limits, the module is valid and plain,
--- and the marks are a text.
+-- and the marks are a text. For `work` it is the finding on a workload.
 abbrev pub FindsMarks : Option Command → Files → Found → Type 0
 FindsMarks (Some (Infer profile file marks)) files found =
     (h : HoldsMarked files profile file marks) → IsFound (under profile h.tree) h.text found
+FindsMarks (Some (Work profile seed size)) files found = IsFound (workload_under profile seed size) marks found
 FindsMarks command files found = Unit {0}
 
 -- what an execution released; nothing where there is none

@@ -12,3 +12,4 @@ command_in (read.Strip profile file) = words.Strip profile file.now
 command_in (read.Link profile parts) = words.Link profile parts
 command_in (read.Run profile run) = words.Run profile run
 command_in (read.Once profile once) = words.Once profile once
+command_in (read.Work profile seed size) = words.Work profile seed size

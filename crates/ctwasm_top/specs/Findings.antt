@@ -1,5 +1,5 @@
 -- What the steps of `infer` say, by findings that are so.
-use Rattle.std.specs.Prelude.{◌≡◌, ℕ, false, List, true, Some, Result, Ok, Err}
+use Rattle.std.specs.Prelude.{◌≡◌, ℕ, false, List, length, true, Some, Result, Ok, Err}
 use Rattle.std.specs.Str.{is_utf8}
 use Rattle.ctw_io.specs.Files.{Files}
 use Rattle.ctw_ops.specs.declared.types.Label.{Label}
@@ -15,7 +15,11 @@ use Rattle.ctw_inputs.specs.declared.said.Stop.TheVariants as stop
 use Rattle.ctw_inputs.specs.Inputs.{on_text, read_valid}
 use Rattle.ctw_inputs.specs.Settling.{SaysAll}
 use Rattle.ctwasm_top.specs.Words.{Infer}
-use Rattle.ctwasm_top.specs.Inference.{Found, LabelsModule, IsFound, on_labels, inferred}
+use Rattle.ctw_labels.specs.Points.{AreReleases}
+use Rattle.ctw_labels.specs.SitedModule.{sites}
+use Rattle.ctw_inputs.specs.Outcome.{Outcome}
+use Rattle.ctwasm_top.specs.declared.inferring.Labelled.{Labelled}
+use Rattle.ctwasm_top.specs.Inference.{Found, LabelsModule, IsFound, on_labelling, labelled_by, inferred}
 use Rattle.ctwasm_top.specs.Answer.{FindsMarks, infer_answer}
 
 -- something is so of what was said, unless nothing was
@@ -25,11 +29,38 @@ OnSaid (Err (stop.Says said)) is_so = is_so said
 OnSaid (Err stop.ReadFault) is_so = Unit {0}
 OnSaid (Err stop.NoMemory) is_so = Unit {0}
 
--- this is said of a module by its marks, where the labels are those that inference finds
-pub record SaysLabels (m : Module Label) (marks : MarkList) (said : Saying) : Type 0 where
-  pub labels : Result (List Label) InferFault
-  pub labelled : LabelsModule m marks labels
-  pub says : SaysAll said (on_labels m marks labels)
+-- why marks give a module no labelling, and what is then said, whatever would be done with one
+pub record SaysNone (m : Module Label) (marks : MarkList) (said : Saying) : Type 0 where
+  pub fault : InferFault
+  pub refused : LabelsModule m marks (Err fault)
+  pub says : (go : List Label → Outcome) → SaysAll said (on_labelling m (Err fault) go)
+
+-- the least labelling by marks
+abbrev pub GivesLabels : Module Label → MarkList → Result (List Label) Stop → Type 0
+GivesLabels m marks (Ok labels) = LabelsModule m marks (Ok labels)
+GivesLabels m marks (Err why) = OnSaid (Err why) (SaysNone m marks)
+
+-- what is said where a text of marks gives a module no labelling, whatever would be done with one
+pub record SaysOther (m : Module Label) (text : List ℕ) (said : Saying) : Type 0 where
+  pub found : Found
+  pub is_so : m.ct ≡ false → IsFound m text found
+  pub says : (go : MarkList → List Label → Outcome) → SaysAll said (labelled_by found m go)
+
+-- a plain module's least labelling by a text of marks, which has these marks
+pub record FindsLabels (m : Module Label) (text : List ℕ) (marks : MarkList) (labels : List Label) : Type 0 where
+  pub plain : m.ct ≡ false
+  pub found : IsFound m text (record { marks = Ok marks; labels = Ok labels })
+
+abbrev pub LabelsBy : Module Label → List ℕ → Result Labelled Stop → Type 0
+LabelsBy m text (Ok l) = FindsLabels m text l.marks l.labels
+LabelsBy m text (Err why) = OnSaid (Err why) (SaysOther m text)
+
+-- the labelling is one of a plain module's sites, and its releases stand in trusted functions
+pub record IsOfSites (m : Module Label) (l : Labelled) : Type 0 where
+  pub plain : m.ct ≡ false
+  pub sites : l.sites ≡ sites m
+  pub labels : length l.labels ≡ length l.sites
+  pub points : AreReleases l.marks.points
 
 -- and of a module by a text of marks
 pub record SaysModule (m : Module Label) (text : List ℕ) (said : Saying) : Type 0 where

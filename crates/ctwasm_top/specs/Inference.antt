@@ -59,16 +59,16 @@ pub record IsFound (m : Module Label) (text : List ℕ) (found : Found) : Type 0
 abbrev pub placed_by : Module Label → MarkList → List Label → Module Label
 placed_by m marks labels = placed (at_tag (label_at labels)) m marks.points
 
--- the canonical bytes of the placed module, the lines of a flow, or a refusal
-abbrev pub on_labels : Module Label → MarkList → Result (List Label) InferFault → Outcome
-on_labels m marks (Ok labels) = ends Done (canon (placed_by m marks labels))
-on_labels m marks (Err infer.Labelled) = ends Refused (infer_line infer.Labelled)
-on_labels m marks (Err (infer.TooManySites count)) = ends Refused (infer_line (infer.TooManySites count))
-on_labels m marks (Err (infer.TrustCall caller at callee)) =
+-- goes on with a labelling; else the lines of a flow, or a refusal
+abbrev pub on_labelling : Module Label → Result (List Label) InferFault → (List Label → Outcome) → Outcome
+on_labelling m (Ok labels) go = go labels
+on_labelling m (Err infer.Labelled) go = ends Refused (infer_line infer.Labelled)
+on_labelling m (Err (infer.TooManySites count)) go = ends Refused (infer_line (infer.TooManySites count))
+on_labelling m (Err (infer.TrustCall caller at callee)) go =
     ends Refused (infer_line (infer.TrustCall caller at callee))
-on_labels m marks (Err (infer.TrustTable func)) = ends Refused (infer_line (infer.TrustTable func))
-on_labels m marks (Err (infer.Flow w)) = ends NoLabelling (flow_text (sites m) w)
-on_labels m marks (Err infer.NoMemory) = ends Refused (infer_line infer.NoMemory)
+on_labelling m (Err (infer.TrustTable func)) go = ends Refused (infer_line (infer.TrustTable func))
+on_labelling m (Err (infer.Flow w)) go = ends NoLabelling (flow_text (sites m) w)
+on_labelling m (Err infer.NoMemory) go = ends Refused (infer_line infer.NoMemory)
 
 -- goes on with the marks that a text has
 abbrev pub on_marks : Result MarkList MarkFault → (MarkList → Outcome) → Outcome
@@ -80,8 +80,15 @@ abbrev pub unless_labelled : Module Label → Outcome → Outcome
 unless_labelled m go = if m.ct then ends Refused (infer_line infer.Labelled) else go
 
 -- a module is labelled by the marks of a text
+abbrev pub labelled_by : Found → Module Label → (MarkList → List Label → Outcome) → Outcome
+labelled_by found m go = unless_labelled m (on_marks found.marks (λ marks. on_labelling m found.labels (go marks)))
+
+-- what `infer` writes of it: the canonical bytes of the placed module
+abbrev pub on_labels : Module Label → MarkList → Result (List Label) InferFault → Outcome
+on_labels m marks labels = on_labelling m labels (λ labels. ends Done (canon (placed_by m marks labels)))
+
 abbrev pub inferred : Found → Module Label → Outcome
-inferred found m = unless_labelled m (on_marks found.marks (λ marks. on_labels m marks found.labels))
+inferred found m = labelled_by found m (λ marks labels. ends Done (canon (placed_by m marks labels)))
 
 -- ---- without trust
 

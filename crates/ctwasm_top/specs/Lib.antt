@@ -4,10 +4,13 @@ pub mod SessionWords
 pub mod Words
 pub mod Commands
 pub mod Lines
+pub mod Launching
 pub mod Marked
 pub mod Inference
+pub mod Works
 pub mod Answer
 pub mod Findings
 pub mod Headline
 pub mod Sessions
 pub mod ValidCalls
+pub mod WorkSteps

@@ -24,7 +24,7 @@ use Rattle.ctw_moves.specs.LaunchedStates.{Ready, launch}
 use Rattle.ctw_inputs.specs.Inputs.{NamedFile, module_limit, modules_limit, script_limit, vault_limit}
 use Rattle.ctw_inputs.specs.Settling.{Reads}
 use Rattle.ctwasm_top.specs.SessionWords.{same_in_once, same_in_run}
-use Rattle.ctwasm_top.specs.Words.{Command, Check, Canon, Text, Infer, Strip, Link, Run, Once}
+use Rattle.ctwasm_top.specs.Words.{Command, Check, Canon, Text, Infer, Strip, Link, Run, Once, Work}
 use Rattle.ctwasm_top.specs.Answer.{once_part}
 use Rattle.ctwasm_top.specs.Marked.{HoldsMarked}
 
@@ -101,6 +101,7 @@ pub record HoldsScript (files : Files) (script : List ℕ) : Type 0 where
 -- what the files hold where the command's work can be done, and only there
 abbrev pub HoldsInputs : Files → Option Command → Type 0
 HoldsInputs files None = ⊥
+HoldsInputs files (Some (Work profile seed size)) = Unit {0}
 HoldsInputs files (Some (Check profile name)) = HoldsValid files profile name
 HoldsInputs files (Some (Canon name)) = HoldsModule files name
 HoldsInputs files (Some (Text profile name)) = HoldsValid files profile name

@@ -1,5 +1,5 @@
 //! The command that labels a module by marks.
-ghost use Rattle.std.specs.Prelude.{◌≡◌, ◌≢◌, ◌≤◌, ◌<◌, ◌^◌, false, length, Some, Err};
+ghost use Rattle.std.specs.Prelude.{◌≡◌, ◌≢◌, ◌≤◌, ◌<◌, ◌^◌, false, length, Some, Err, IfOk};
 ghost use Rattle.ctw_ops.specs.Valid.{IsValid};
 ghost use Rattle.ctw_module.specs.Trees.{view_module};
 ghost use Rattle.ctw_labels.specs.Points.{AreReleases};
@@ -11,7 +11,7 @@ ghost use Rattle.ctw_inputs.specs.declared.said.Status.TheVariants.{Refused};
 ghost use Rattle.ctw_inputs.specs.declared.said.Stop.TheVariants.{ReadFault};
 ghost use Rattle.ctw_inputs.specs.Outcome.{ends};
 ghost use Rattle.ctw_inputs.specs.Settling.{IsStop, HasReadCause};
-ghost use Rattle.ctwasm_top.specs.Findings.{OnSaid, SaysLabels, SaysModule, SaysBytes, SaysFiles};
+ghost use Rattle.ctwasm_top.specs.Findings.{OnSaid, GivesLabels, LabelsBy, IsOfSites, SaysModule, SaysBytes, SaysFiles};
 
 use ctw_infer::{InferFault, infer_sites};
 use ctw_inputs::{MARKS_LIMIT, MODULE_LIMIT, Said, Stop, load_file, read_valid, refuse, text_of};
@@ -21,7 +21,7 @@ use ctw_marks::{MarkFault, Marks, read_marks};
 use ctw_module::Module;
 use ctw_ops::Profile;
 use ctw_place::place;
-use ctw_sites::{Sites, SitesFault};
+use ctw_sites::{Labelling, Sites, SitesFault};
 use ctw_witness::witness_text;
 use std::alloc::Global;
 
@@ -33,25 +33,23 @@ fn refuse_infer(alloc: Global, fault: InferFault) -> Stop
     refuse(infer_line(alloc, &fault))
 }
 
-/// What is said of a plain module whose sites are numbered: the canonical bytes of the placed module, the lines of a
-/// flow, or a refusal.
-fn label_sites(alloc: Global, m: &Module, s: &Sites, marks: &Marks) -> Result<Said, Stop>
+/// The least labelling of a plain module's sites that fits marks; where none does, the lines of a flow or a refusal are
+/// said.
+fn label_sites(alloc: Global, m: &Module, s: &Sites, marks: &Marks) -> Result<Labelling, Stop>
     requires plain { (view_module m.now).ct ≡ false }
     requires valid { IsValid (view_module m.now) }
     requires sites { s.now ≡ sites_of (view_module m.now) }
     requires few { length (sites_of (view_module m.now)) ≤ most_sites }
     requires points { AreReleases marks.now.points }
-    ensures told { OnSaid result (SaysLabels (view_module m.now) marks.now) }
+    ensures told { GivesLabels (view_module m.now) marks.now result }
+    ensures labelling { IfOk result (λ l. length l ≡ length s.now) }
     ensures quiet { result ≢ Err ReadFault }
 {
     match infer_sites(alloc, m, s, marks) {
-        Ok(labels) => {
-            let bytes = place(alloc, m, s, marks.points(), &labels)?;
-            Ok(Said::done(bytes))
-        }
+        Ok(labels) => Ok(labels),
         Err(InferFault::Flow(flow)) => {
             let text = witness_text(alloc, s, &flow)?;
-            Ok(Said::no_labelling(text.into_bytes()))
+            Err(Stop::Says(Said::no_labelling(text.into_bytes())))
         }
         Err(InferFault::TrustCall { caller, at, callee }) => {
             let fault = InferFault::TrustCall { caller, at, callee };
@@ -65,11 +63,24 @@ fn label_sites(alloc: Global, m: &Module, s: &Sites, marks: &Marks) -> Result<Sa
     }
 }
 
-/// What is said of a valid module by a text of marks.
-fn label_module(alloc: Global, m: &Module, text: &str) -> Result<Said, Stop>
+/// A plain module's marks, its sites, and the least labelling that fits.
+#[derive(Drop)]
+pub struct Labelled {
+    /// The marks.
+    pub marks: Marks,
+    /// The sites.
+    pub sites: Sites,
+    /// The labels of the sites.
+    pub labels: Labelling,
+}
+
+/// A valid module's least labelling by a text of marks. In its place are said the refusal of a CT module, of the marks
+/// or of the module, or the lines of a flow.
+pub fn label_by(alloc: Global, m: &Module, text: &str) -> Result<Labelled, Stop>
     requires valid { IsValid (view_module m.now) }
     requires short { length text.now < 2 ^ 32 }
-    ensures told { OnSaid result (SaysModule (view_module m.now) text.now) }
+    ensures told { LabelsBy (view_module m.now) text.now result }
+    ensures labelling { IfOk result (IsOfSites (view_module m.now)) }
     ensures quiet { result ≢ Err ReadFault }
 {
     if m.is_ct() {
@@ -88,7 +99,33 @@ fn label_module(alloc: Global, m: &Module, text: &str) -> Result<Said, Stop>
         }
         Err(SitesFault::NoMemory) => return Err(Stop::NoMemory),
     };
-    label_sites(alloc, m, &sites, &marks)
+    match label_sites(alloc, m, &sites, &marks) {
+        Ok(labels) => Ok(Labelled {
+            marks,
+            sites,
+            labels,
+        }),
+        Err(stop) => Err(stop),
+    }
+}
+
+/// What is said of a valid module by a text of marks: the canonical bytes of the placed module, the lines of a flow, or
+/// a refusal.
+fn label_module(alloc: Global, m: &Module, text: &str) -> Result<Said, Stop>
+    requires valid { IsValid (view_module m.now) }
+    requires short { length text.now < 2 ^ 32 }
+    ensures told { OnSaid result (SaysModule (view_module m.now) text.now) }
+    ensures quiet { result ≢ Err ReadFault }
+{
+    let labelled = label_by(alloc, m, text)?;
+    let bytes = place(
+        alloc,
+        m,
+        &labelled.sites,
+        labelled.marks.points(),
+        &labelled.labels,
+    )?;
+    Ok(Said::done(bytes))
 }
 
 /// What is said of the bytes of a module's file and of a file of marks.

@@ -2,12 +2,14 @@
 #![tactic(auto)]
 
 mod commands;
+mod counting;
 mod inferring;
 mod lines;
 mod running;
 mod saying;
 mod sessions;
 mod words;
+mod working;
 
 ghost use Rattle.std.specs.Prelude.{◌≡◌, ◌≢◌, [], List, Result, ℕ, map, string_bytes, Some, None, All};
 ghost use Rattle.ctw_io.specs.Files.{Files};
@@ -28,7 +30,7 @@ ghost use Rattle.ctwasm_top.specs.Usage.{usage_text};
 ghost use Rattle.ctwasm_top.specs.Words.{Infer, command_of, vault_word};
 ghost use Rattle.ctwasm_top.specs.Inference.{Found, IsPlacedUntrusted};
 ghost use Rattle.ctwasm_top.specs.Marked.{HoldsMarked};
-ghost use Rattle.ctwasm_top.specs.Answer.{answer, releases, ReadsScript};
+ghost use Rattle.ctwasm_top.specs.Answer.{answer, releases, ReadsScript, FindsMarks};
 ghost use Rattle.ctwasm_top.specs.Headline.{Did, DidFound, DidInfer, HasCauses, IsAnswer, AreOctets, OtherVault, SameOutcome, ExecutesUntrusted, RunsStripped};
 ghost use Rattle.ctwasm_top.specs.ValidCalls.{HoldsInputs, WritesModule};
 
@@ -40,6 +42,7 @@ use running::{once, run};
 use saying::{say, settle};
 use std::alloc::Global;
 use words::{Command, command_of};
+use working::work;
 
 const USAGE: &[u8] = b"usage: ctwasm check M
        ctwasm canon M
@@ -93,14 +96,15 @@ fn dispatch<F: Shelf, K: Sink>(
         }
         Some(Command::Run(profile, words)) => run(alloc, profile, &words, shelf, out),
         Some(Command::Once(profile, words)) => once(alloc, profile, &words, shelf, out),
+        Some(Command::Work(profile, seed, size)) => work(alloc, profile, seed, size, out),
     }
 }
 
 /// Does what the words after the program's name say, over these files and this place for text.
 ///
 /// For now it has the commands `check M`, `canon M`, `text M`, `infer M MARKS`, `strip M`, `link NAME=M..`,
-/// `run SCRIPT VAULT SEALED NAME=M..` and `once M VAULT SEALED EXPORT ARG..`. Before all but `canon` the word `mul` may stand, under which multiplications leak
-/// as divisions do. All other words are a wrong use, whose text is written. The text of each move is written before the
+/// `run SCRIPT VAULT SEALED NAME=M..`, `once M VAULT SEALED EXPORT ARG..` and `work SEED SIZE`. Before all but `canon` the
+/// word `mul` may stand, under which multiplications leak as divisions do. All other words are a wrong use, whose text is written. The text of each move is written before the
 /// next is made, every text before a file is saved, and files are saved in the last place.
 pub fn ctwasm<F: Shelf, K: Sink>(
     alloc: Global,
@@ -154,7 +158,7 @@ pub fn ctwasm<F: Shelf, K: Sink>(
         → seen_run (plays set s moves) ≡ seen_run (plays set t moves) }
     // Without trusted functions nothing is released.
     ensures untrusted { (files : Files) (reading : Result (List Move) ScriptFault) (found : Found) (e : Execution)
-        → AreOctets files → (answer (map string_bytes words.now) files reading found).execution ≡ Some e → All HasBytes e.moves
+        → AreOctets files → FindsMarks (command_of (map string_bytes words.now)) files found → (answer (map string_bytes words.now) files reading found).execution ≡ Some e → All HasBytes e.moves
         → AllUntrusted (set_instances e.set) → (plays e.set e.state e.moves).releases ≡ [] }
     // Modules that are inferred without trust have no trusted function. So where the parts that are executed are such
     // ones, the answer keeps every secret, as `hidden` says, for every two vaults of one length.
@@ -168,7 +172,7 @@ pub fn ctwasm<F: Shelf, K: Sink>(
         (answer (map string_bytes words.now) files reading found) }
     // What is executed does the same when it is stripped.
     ensures stripped { (files : Files) (reading : Result (List Move) ScriptFault) (found : Found) (e : Execution)
-        → AreOctets files → (answer (map string_bytes words.now) files reading found).execution ≡ Some e → All HasBytes e.moves
+        → AreOctets files → FindsMarks (command_of (map string_bytes words.now)) files found → (answer (map string_bytes words.now) files reading found).execution ≡ Some e → All HasBytes e.moves
         → RunsStripped e }
 
     // Told or not: wrong words are a wrong use, which reads no file.

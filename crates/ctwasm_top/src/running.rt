@@ -13,7 +13,7 @@ ghost use Rattle.ctw_inputs.specs.Outcome.{Outcome};
 ghost use Rattle.ctw_inputs.specs.Inputs.{script_limit};
 ghost use Rattle.ctw_inputs.specs.Parts.{names, contents, bytes_in};
 ghost use Rattle.ctw_inputs.specs.Settling.{IsRefusal, Settles, HasReadCause, Reads};
-ghost use Rattle.ctwasm_top.specs.Answer.{once_part, once_moves, once_answer, run_answer, ReadsScript};
+ghost use Rattle.ctwasm_top.specs.Answer.{once_part, call_of, once_moves, once_answer, run_answer, ReadsScript};
 ghost use Rattle.ctwasm_top.specs.Headline.{DidTold, HasCauses};
 ghost use Rattle.ctwasm_top.specs.Sessions.{ArePartsOf, OpensRun, run_files, run_opened, once_files, IsSaved, Writes};
 ghost use Rattle.ctwasm_top.specs.SessionWords.{same_in_run, same_in_once};
@@ -29,7 +29,7 @@ use ctw_inputs::{
 use ctw_io::{Fault, Shelf, Sink};
 use ctw_lines::refusal_line;
 use ctw_ops::{Name, Profile};
-use ctw_script::{Args, Move, Moves, Slot64};
+use ctw_script::{Arg, Args, Move, Moves, Slot64};
 use ctw_session::Session;
 use std::alloc::{AllocError, Global};
 
@@ -193,17 +193,19 @@ fn load_once<'a, F: Shelf>(
     Ok(OnceFiles { parts, vault })
 }
 
-/// The two moves of `once`.
+/// Two moves.
 #[derive(Drop)]
-struct OnceMoves {
-    begin: Move,
-    turn: Move,
+pub struct TwoMoves {
+    /// The first.
+    pub begin: Move,
+    /// The second.
+    pub turn: Move,
 }
 
-/// The moves of `once`: a call of the export begins in slot 0, and takes 1,000,000 steps.
+/// A call of an export of the part `m` begins in slot 0, and takes 1,000,000 steps.
 #[tactic(auto, unfolding(ctw_ops::specs::Limits::most_steps))]
-fn moves_of_once(alloc: Global, words: &Once) -> Result<OnceMoves, AllocError>
-    ensures { IfOk result (λ m. m.begin ∷ m.turn ∷ [] ≡ once_moves words.now) }
+pub fn call_moves(alloc: Global, export: &str, arguments: Vec<Arg>) -> Result<TwoMoves, AllocError>
+    ensures { IfOk result (λ m. m.begin ∷ m.turn ∷ [] ≡ call_of export.now arguments.items) }
 {
     let Some(slot) = Slot64::new(0) else {
         unreachable!();
@@ -211,14 +213,21 @@ fn moves_of_once(alloc: Global, words: &Once) -> Result<OnceMoves, AllocError>
     let begin = Move::Begin {
         slot,
         part: Name::new(String::from_str(alloc, "m")?),
-        export: Name::new(String::from_str(alloc, words.export)?),
-        args: Args::new(words.arguments.read(alloc)?),
+        export: Name::new(String::from_str(alloc, export)?),
+        args: Args::new(arguments),
     };
     let turn = Move::Turn {
         slot,
         steps: 1_000_000,
     };
-    Ok(OnceMoves { begin, turn })
+    Ok(TwoMoves { begin, turn })
+}
+
+/// The moves of `once`.
+fn moves_of_once(alloc: Global, words: &Once) -> Result<TwoMoves, AllocError>
+    ensures { IfOk result (λ m. m.begin ∷ m.turn ∷ [] ≡ once_moves words.now) }
+{
+    call_moves(alloc, words.export, words.arguments.read(alloc)?)
 }
 
 /// `once M VAULT SEALED EXPORT ARG..`: as `run` with M as the one part `m`, and two moves: the call of EXPORT with the

@@ -14,7 +14,8 @@ ghost use Rattle.ctw_inputs.specs.declared.said.Stop.TheVariants.{ReadFault};
 ghost use Rattle.ctw_inputs.specs.Outcome.{Outcome};
 ghost use Rattle.ctw_inputs.specs.Parts.{names, contents, bytes_in, AreNamed};
 ghost use Rattle.ctw_inputs.specs.Settling.{IsStop, IsRefusal};
-ghost use Rattle.ctwasm_top.specs.Answer.{launched, on_launch};
+ghost use Rattle.ctwasm_top.specs.Launching.{on_launch};
+ghost use Rattle.ctwasm_top.specs.Answer.{launched};
 ghost use Rattle.ctwasm_top.specs.Sessions.{Opens, Told};
 
 use crate::lines::{launch_line, move_text};
@@ -41,7 +42,7 @@ fn refuse_launch(alloc: Global, parts: &[LoadedPart], fault: LaunchFault) -> Sto
 }
 
 /// Launches a set of loaded parts with a vault, or refuses why it isn't launched.
-fn launch_set<'b>(
+pub fn launch_set<'b>(
     alloc: Global,
     parts: &[LoadedPart],
     set: LinkedSet<'b>,

@@ -1,12 +1,12 @@
 //! The words of a command.
 ghost use Rattle.std.specs.Prelude.{◌≡◌, ◌≤◌, map, filter_map, option_map, is_some, length, string_bytes, IfOk};
 ghost use Rattle.std.specs.List.{list_any};
-ghost use Rattle.std.specs.Str.{bytes_eq};
+ghost use Rattle.std.specs.Str.{bytes_eq, all_ascii_digits};
 ghost use Rattle.ctw_script.specs.MoveValues.{argument_value};
 ghost use Rattle.ctw_inputs.specs.Parts.{part_named};
 ghost use Rattle.ctwasm_top.specs.NamedFiles.{named_file, named_files};
 ghost use Rattle.ctwasm_top.specs.SessionWords.{arguments_of, part_words, run_words, once_words, same_in_run, same_in_once};
-ghost use Rattle.ctwasm_top.specs.Words.{file_words, infer_words, link_words, profiled_command, mul_command, command_of};
+ghost use Rattle.ctwasm_top.specs.Words.{file_words, infer_words, link_words, number_word, work_words, profiled_command, mul_command, command_of};
 ghost use Rattle.ctwasm_top.specs.Commands.{command_in};
 
 use ctw_inputs::PartFile;
@@ -107,6 +107,12 @@ impl<'a> Model for Once<'a> {
 
 /// The most parts of a command.
 const MOST_PARTS: usize = 64;
+
+/// The greatest seed of a workload.
+const MOST_SEED: u32 = 2_147_483_647;
+
+/// The greatest size of a workload.
+const MOST_SIZE: u32 = 20_000;
 
 /// What a word NAME=M names; None where it has another form.
 fn part_file(word: &str) -> Option<PartFile<'_>>
@@ -324,6 +330,8 @@ pub enum Command<'a> {
     Run(Profile, Run<'a>),
     /// `once M VAULT SEALED EXPORT ARG..`, under a profile.
     Once(Profile, Once<'a>),
+    /// `work SEED SIZE`, under a profile.
+    Work(Profile, u32, u32),
 }
 
 /// The one word behind that of a command; None where the words have another form.
@@ -352,6 +360,49 @@ fn infer_words(words: &[String]) -> Option<(&str, &str)>
     Some((file.as_str(), marks.as_str()))
 }
 
+/// Whether each byte is a decimal digit.
+fn are_digits(bytes: &[u8]) -> bool
+    ensures { result ≡ all_ascii_digits bytes.now }
+{
+    'bytes: for b in bytes {
+        if !b.is_ascii_digit() {
+            return false;
+        }
+    }
+    true
+}
+
+/// The number that decimal digits write, where it is from `least` to `most`; None where the word has another form.
+fn number_word(word: &str, least: u32, most: u32) -> Option<u32>
+    ensures { result ≡ number_word least most word.now }
+{
+    if word.is_empty() || !are_digits(word.as_bytes()) {
+        return None;
+    }
+    let Ok(number) = word.parse::<u32>() else {
+        return None;
+    };
+    if number < least || number > most {
+        return None;
+    }
+    Some(number)
+}
+
+/// The seed and the size behind `work`; None where the words have another form.
+fn work_words(words: &[String]) -> Option<(u32, u32)>
+    ensures { result ≡ work_words (map string_bytes words.now) }
+{
+    let [command, seed, size] = words else {
+        return None;
+    };
+    if command.as_str() != "work" {
+        return None;
+    }
+    let seed = number_word(seed.as_str(), 0, MOST_SEED)?;
+    let size = number_word(size.as_str(), 1, MOST_SIZE)?;
+    Some((seed, size))
+}
+
 /// The command to which a profile matters; None where the words have the form of none.
 fn profiled_command(profile: Profile, words: &[String]) -> Option<Command<'_>>
     ensures { option_map command_in result ≡ profiled_command profile (map string_bytes words.now) }
@@ -374,8 +425,11 @@ fn profiled_command(profile: Profile, words: &[String]) -> Option<Command<'_>>
     if let Some(run) = run_words(words) {
         return Some(Command::Run(profile, run));
     }
-    match once_words(words) {
-        Some(once) => Some(Command::Once(profile, once)),
+    if let Some(once) = once_words(words) {
+        return Some(Command::Once(profile, once));
+    }
+    match work_words(words) {
+        Some((seed, size)) => Some(Command::Work(profile, seed, size)),
         None => None,
     }
 }

@@ -16,10 +16,10 @@ pub returns-clause-lists : goal.returns-clause-lists
 returns-clause-lists g c = λ set s t moves e q. plays_alike set moves s t e q
 
 pub returns-clause-untrusted : goal.returns-clause-untrusted
-returns-clause-untrusted g c = λ files reading found e octets is bytes untrusted. none_released files octets e (map string_bytes c.args.words.now) reading found bytes untrusted is
+returns-clause-untrusted g c = λ files reading found e octets finds is bytes untrusted. none_released files octets e (map string_bytes c.args.words.now) reading found finds bytes untrusted is
 
 pub returns-clause-stripped : goal.returns-clause-stripped
-returns-clause-stripped g c = λ files reading found e octets is bytes. runs_stripped files octets e (map string_bytes c.args.words.now) reading found bytes is
+returns-clause-stripped g c = λ files reading found e octets finds is bytes. runs_stripped files octets e (map string_bytes c.args.words.now) reading found finds bytes is
 
 pub returns-clause-held : goal.returns-clause-held
 returns-clause-held g c = λ files told done.

@@ -2,7 +2,8 @@ use Rattle.std.proofs.Common.{[], inl, Some, Ok, map, string_bytes, sym, ap, ◌
 use Rattle.ctwasm_top.specs.declared.words.Command.{Command}
 use Rattle.ctwasm_top.specs.Usage.{usage_text}
 use Rattle.ctwasm_top.specs.Commands.{command_in}
-use Rattle.ctwasm_top.proofs.Dispatched.{on_command, reads_command, command_reads, command_causes, nothing_found, says_command, says_inferred, settled_causes, written_causes}
+use Rattle.ctwasm_top.proofs.Dispatched.{on_command, reads_command, command_reads, command_causes, nothing_found, says_command, says_inferred, did_work, work_causes, settled_causes, written_causes}
+use Rattle.ctwasm_top.proofs.WorkWords.{work_numbers}
 use Rattle.ctwasm_top.proofs.dispatch.Goals as goal
 
 -- ---- wrong words
@@ -119,3 +120,22 @@ returns-in-Some-Run-clause-causes g c = command_causes (map string_bytes c.args.
 
 pub returns-in-Some-Once-clause-causes : goal.returns-in-Some-Once-clause-causes
 returns-in-Some-Once-clause-causes g c = command_causes (map string_bytes c.args.words.now) _ (sym c.in-Some-Once.ensures ∙ ap (λ (k : Command). Some (command_in k)) c.in-Some-Once.field-0-is) c.once.result _ _ _ _ _ _ c.once.ensures.causes
+
+-- ---- workloads
+
+pub work-requires-clause-seed : goal.work-requires-clause-seed
+work-requires-clause-seed g c = (work_numbers (map string_bytes c.args.words.now) _ _ _ (sym c.in-Some-Work.ensures ∙ ap (λ (k : Command). Some (command_in k)) c.in-Some-Work.field-0-is)).0
+
+pub work-requires-clause-size : goal.work-requires-clause-size
+work-requires-clause-size g c = (work_numbers (map string_bytes c.args.words.now) _ _ _ (sym c.in-Some-Work.ensures ∙ ap (λ (k : Command). Some (command_in k)) c.in-Some-Work.field-0-is)).1
+
+pub returns-in-Some-Work-clause-did : goal.returns-in-Some-Work-clause-did
+returns-in-Some-Work-clause-did g c = λ files reading told h.
+    did_work (map string_bytes c.args.words.now) files _ _ _ (sym c.in-Some-Work.ensures ∙ ap (λ (k : Command). Some (command_in k)) c.in-Some-Work.field-0-is) reading c.work.result _ _ _ told (c.work.ensures.did files)
+
+pub returns-in-Some-Work-clause-read : goal.returns-in-Some-Work-clause-read
+returns-in-Some-Work-clause-read g c = λ files told done. (Ok [], command_reads (map string_bytes c.args.words.now) files _ (sym c.in-Some-Work.ensures ∙ ap (λ (k : Command). Some (command_in k)) c.in-Some-Work.field-0-is) (Ok []) tt)
+
+pub returns-in-Some-Work-clause-causes : goal.returns-in-Some-Work-clause-causes
+returns-in-Some-Work-clause-causes g c =
+    command_causes (map string_bytes c.args.words.now) _ (sym c.in-Some-Work.ensures ∙ ap (λ (k : Command). Some (command_in k)) c.in-Some-Work.field-0-is) c.work.result _ _ _ _ _ _ (work_causes _ _ _ c.work.result _ _ _ _ _ c.work.ensures.write c.work.ensures.quiet)

@@ -1,24 +1,16 @@
 use Rattle.std.proofs.Common.{◌≡◌, ◌∙◌, ℕ, List, Vec, Global, ap, subst}
 use Rattle.std.specs.String.{string_bytes}
 use Rattle.ctw_module.specs.Trees.{view_module}
-use Rattle.ctw_write.specs.Canon.{canon}
 use Rattle.ctw_labels.specs.Names.{Site}
-use Rattle.ctw_labels.specs.Links.{at_tag}
-use Rattle.ctw_labels.specs.Placed.{placed}
-use Rattle.ctw_labels.specs.Points.{Points}
-use Rattle.ctw_labels.specs.Fits.{label_at}
 use Rattle.ctw_witness.specs.Lines.{flow_text}
 use Rattle.ctw_infer.specs.Answers.{IsRefusedPlain}
 use Rattle.ctwasm_top.specs.Inference.{asked}
-use Rattle.ctwasm_top.proofs.Labelling.{labels_placed, labels_flow}
+use Rattle.ctwasm_top.proofs.Labelling.{labels_flow}
 use Rattle.ctwasm_top.proofs.inferring.label_sites.Goals as goal
 
-pub returns-in_ok-bytes-in-Ok-clause-told : goal.returns-in_ok-bytes-in-Ok-clause-told
-returns-in_ok-bytes-in-Ok-clause-told c =
-    let m = view_module c.args.m.now in
-    labels_placed m c.args.marks.now c.in-Ok.labels c.done.result c.in_ok-bytes-in-Ok.bytes.items (c.requires.plain, c.requires.few)
-    (record { labelling = c.in-Ok.ensures.labelling; fits = c.in-Ok.ensures.fits; least = c.in-Ok.ensures.least }) c.done.ensures
-    (c.in_ok-bytes-in-Ok.ensures.bytes ∙ ap (λ (p : Points). canon (placed (at_tag (label_at c.in-Ok.labels)) m p)) c.points.ensures)
+pub returns-in-Ok-clause-told : goal.returns-in-Ok-clause-told
+returns-in-Ok-clause-told c =
+    ((c.requires.plain, c.requires.few), record { labelling = c.in-Ok.ensures.labelling; fits = c.in-Ok.ensures.fits; least = c.in-Ok.ensures.least })
 
 pub returns-in_ok-text-in-Err-Flow-clause-told : goal.returns-in_ok-text-in-Err-Flow-clause-told
 returns-in_ok-text-in-Err-Flow-clause-told c =
