@@ -3,13 +3,16 @@
 //!
 //! The file `commands` has a line for each. `ctwasm WORD..` is a call; it may end with `>FILE`, which keeps what is
 //! written as a file, and else that is printed, with a line `status N` behind it where the status isn't 0. `same A B`
-//! prints `same` where two files have the same bytes, and else `differ`; `last FILE` prints the last line of a file. No
-//! file outside this program's memory is changed.
+//! prints `same` where two files have the same bytes, and else `differ`; `last FILE` prints the last line of a file,
+//! `first N FILE` its first N lines, `shows FILE` all of it, with a line end behind it, `bytes FILE` its bytes in
+//! hexadecimal, 16 in a line, `end N FILE` its last N bytes so, and `size FILE` how many bytes it has. No file outside
+//! this program's memory is changed.
 #![tactic(auto)]
 
 use ctw_io::{DirShelf, Fault, Loaded, OutSink, Shelf, Sink, SureShelf, SureSink, send};
 use ctwasm_top::{Status, ctwasm};
-use std::alloc::{AllocError, Global};
+use itoa::Buffer;
+use std::alloc::{AllocError, AllocFailed, Global};
 use std::process::ExitCode;
 
 /// The greatest size of a file, in bytes.
@@ -25,6 +28,12 @@ enum Stop {
 
 impl From<AllocError> for Stop {
     fn from(_error: AllocError) -> Stop {
+        Stop::NoMemory
+    }
+}
+
+impl<T: Drop> From<AllocFailed<T>> for Stop {
+    fn from(_failed: AllocFailed<T>) -> Stop {
         Stop::NoMemory
     }
 }
@@ -138,6 +147,79 @@ fn is_same<D: Shelf>(
     }
 }
 
+/// A digit of a byte in hexadecimal.
+fn digit(b: u8) -> u8 {
+    match b % 16 {
+        n @ 0..=9 => b'0' + n,
+        n => b'a' + (n - 10),
+    }
+}
+
+/// A file of the shelf, which is put there first if it isn't there yet.
+fn file_of<'a, D: Shelf>(
+    alloc: Global,
+    disk: &mut D,
+    shelf: &'a mut SureShelf,
+    name: &str,
+) -> Result<&'a [u8], Stop> {
+    fetch(alloc, disk, shelf, name)?;
+    match shelf.file(name) {
+        Some(bytes) => Ok(bytes),
+        None => Err(Stop::Failed),
+    }
+}
+
+/// Prints bytes in hexadecimal, each behind a blank, 16 in a line.
+fn print_bytes<K: Sink>(alloc: Global, out: &mut K, bytes: &[u8]) -> Result<(), Stop> {
+    let mut text = Vec::new(alloc);
+    for line in bytes.chunks(16) {
+        for b in line {
+            text.push(b' ')?;
+            text.push(digit(*b / 16))?;
+            text.push(digit(*b))?;
+        }
+        text.push(b'\n')?;
+    }
+    send(out, &text)?;
+    Ok(())
+}
+
+/// The last bytes, so many, or all where there are fewer.
+fn end_of(bytes: &[u8], count: usize) -> &[u8] {
+    if count >= bytes.len() {
+        return bytes;
+    }
+    &bytes[bytes.len() - count..]
+}
+
+/// Prints the first lines, so many, or all where there are fewer.
+fn print_first<K: Sink>(out: &mut K, bytes: &[u8], count: usize) -> Result<(), Stop> {
+    for line in bytes.split_inclusive(|b| *b == b'\n').take(count) {
+        send(out, line)?;
+    }
+    Ok(())
+}
+
+/// A number, and what stands behind the blank after it.
+fn numbered(words: &str) -> Result<(usize, &str), Stop> {
+    let Some((number, name)) = words.split_once(' ') else {
+        return Err(Stop::Failed);
+    };
+    match number.parse::<u32>() {
+        Ok(number) => Ok((number as usize, name)),
+        Err(_) => Err(Stop::Failed),
+    }
+}
+
+/// Prints bytes, and a line end behind them where they have none.
+fn print_all<K: Sink>(out: &mut K, bytes: &[u8]) -> Result<(), Stop> {
+    send(out, bytes)?;
+    if !bytes.ends_with(b"\n") {
+        send(out, b"\n")?;
+    }
+    Ok(())
+}
+
 /// Prints the last line of a file.
 fn print_last<D: Shelf, K: Sink>(
     alloc: Global,
@@ -188,7 +270,28 @@ fn follow<D: Shelf, K: Sink>(
         send(out, told)?;
     }
     if let Some(name) = line.strip_prefix("last ") {
-        print_last(alloc, disk, shelf, out, name)?;
+        return print_last(alloc, disk, shelf, out, name);
+    }
+    if let Some(words) = line.strip_prefix("first ") {
+        let (count, name) = numbered(words)?;
+        return print_first(out, file_of(alloc, disk, shelf, name)?, count);
+    }
+    if let Some(name) = line.strip_prefix("shows ") {
+        return print_all(out, file_of(alloc, disk, shelf, name)?);
+    }
+    if let Some(name) = line.strip_prefix("bytes ") {
+        return print_bytes(alloc, out, file_of(alloc, disk, shelf, name)?);
+    }
+    if let Some(words) = line.strip_prefix("end ") {
+        let (count, name) = numbered(words)?;
+        let bytes = file_of(alloc, disk, shelf, name)?;
+        return print_bytes(alloc, out, end_of(bytes, count));
+    }
+    if let Some(name) = line.strip_prefix("size ") {
+        let mut buffer = Buffer::new();
+        let size = file_of(alloc, disk, shelf, name)?.len();
+        send(out, buffer.format(size).as_bytes())?;
+        send(out, b"\n")?;
     }
     Ok(())
 }
