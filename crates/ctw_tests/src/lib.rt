@@ -1,7 +1,7 @@
 //! Tests of the library crates: values from outside, and each public call once where memory is ample.
 //!
-//! A crate with tests is proved twice, so the tests of all crates stand in two light ones, here and in those of the
-//! command line. What this crate offers to others is how rows of a table of cases are read.
+//! A crate with tests is proved twice, so the tests of all crates stand in four light ones: here, in those of modules and
+//! of labels, and in those of the command line. What this crate offers to others is how rows of a table of cases are read.
 #![tactic(auto)]
 
 mod rows;
