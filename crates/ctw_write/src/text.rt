@@ -132,7 +132,7 @@ pub(crate) fn put_type_entry(
 }
 
 /// The first byte of a type entry that is no variant.
-fn entry_code(trust: Trust) -> u8
+pub fn entry_code(trust: Trust) -> u8
     ensures { result ≡ entry_byte trust }
 {
     match trust {
@@ -142,7 +142,7 @@ fn entry_code(trust: Trust) -> u8
 }
 
 /// The byte of a trust.
-fn trust_code(trust: Trust) -> u8
+pub fn trust_code(trust: Trust) -> u8
     ensures { result ≡ trust_byte trust }
 {
     match trust {
@@ -187,7 +187,7 @@ pub(crate) fn put_import(out: &mut Vec<u8>, import: &Import) -> Result<(), Alloc
 }
 
 /// The byte of what is exported.
-fn kind_code(kind: ExternTag) -> u8
+pub fn kind_code(kind: ExternTag) -> u8
     ensures { result ≡ kind_byte kind }
 {
     match kind {
