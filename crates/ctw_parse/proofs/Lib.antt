@@ -1,0 +1,10 @@
+pub mod Grouping
+pub mod LocalEnds
+pub mod Joined
+pub mod Branches
+pub mod Nested
+pub mod Tokens
+pub mod Fitted
+pub mod LastPasses
+pub mod Bodies
+pub mod NarrowTexts

@@ -1,0 +1,5 @@
+pub mod WideCanon
+pub mod Assembled
+pub mod Ends
+pub mod Written
+pub mod Told
