@@ -2,6 +2,8 @@
 #![tactic(auto)]
 
 #[cfg(test)]
+mod assembles;
+#[cfg(test)]
 mod calls;
 #[cfg(test)]
 mod infers;

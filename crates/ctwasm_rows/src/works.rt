@@ -40,6 +40,10 @@ fn workloads_are_labelled_and_run(rt: HostRuntime) {
             "work 0 30",
             "labelled sites 454 secret 334 classify 30 steps 347 events 45\n",
         ),
+        (
+            "work 1 20000",
+            "labelled sites 300358 secret 220122 classify 20000 steps 230415 events 30059\n",
+        ),
         ("mul work 1 1", one),
         ("mul work 1 2", two),
     ];

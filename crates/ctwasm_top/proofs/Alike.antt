@@ -28,7 +28,7 @@ use Rattle.ctw_inputs.specs.Inputs.{NamedFile, at_most, module_limit, modules_li
 use Rattle.ctwasm_top.specs.Lines.{told_lines}
 use Rattle.ctwasm_top.specs.SessionWords.{OnceWords, RunWords, same_file, same_in_once, same_in_run}
 use Rattle.ctwasm_top.specs.Inference.{Found}
-use Rattle.ctwasm_top.specs.Words.{Command, Check, Canon, Text, Infer, Strip, Link, Run as Runs, Once, Work, command_of, vault_in, vault_word}
+use Rattle.ctwasm_top.specs.Words.{Command, Check, Canon, Assemble, Text, Infer, Strip, Link, Run as Runs, Once, Work, command_of, vault_in, vault_word}
 use Rattle.ctwasm_top.specs.Launching.{on_launch}
 use Rattle.ctwasm_top.specs.Answer.{ran, launched, unless_same, once_part, once_moves, once_answer, run_answer, on_words, answer, released_in, releases}
 use Rattle.ctwasm_top.specs.Headline.{OtherVault, SameOutcome}
@@ -185,6 +185,7 @@ words_alike : (reading : Result (List Move) ScriptFault) (found : Found) (o : Op
 words_alike reading found None vault f g e d = let n : None ≡ Some vault = e in absurd cc
 words_alike reading found (Some (Check profile file)) vault f g e d = let n : None ≡ Some vault = e in absurd cc
 words_alike reading found (Some (Canon file)) vault f g e d = let n : None ≡ Some vault = e in absurd cc
+words_alike reading found (Some (Assemble file)) vault f g e d = let n : None ≡ Some vault = e in absurd cc
 words_alike reading found (Some (Text profile file)) vault f g e d = let n : None ≡ Some vault = e in absurd cc
 words_alike reading found (Some (Infer profile file marks)) vault f g e d = let n : None ≡ Some vault = e in absurd cc
 words_alike reading found (Some (Strip profile file)) vault f g e d = let n : None ≡ Some vault = e in absurd cc

@@ -35,12 +35,13 @@ use Rattle.ctw_inputs.specs.Settling.{Reads}
 use Rattle.ctwasm_top.proofs.Profiles.{under_ok, spelled_under, valid_under, module_read_valid}
 use Rattle.ctwasm_top.specs.SessionWords.{OnceWords, RunWords, same_in_once, same_in_run}
 use Rattle.ctwasm_top.specs.Inference.{Found}
-use Rattle.ctwasm_top.specs.Words.{Command, Check, Canon, Text, Infer, Strip, Link, Run, Once, Work, command_of}
+use Rattle.ctwasm_top.specs.Words.{Command, Check, Canon, Assemble, Text, Infer, Strip, Link, Run, Once, Work, command_of}
 use Rattle.ctwasm_top.specs.Lines.{linked_line}
 use Rattle.ctwasm_top.specs.Launching.{on_launch}
 use Rattle.ctwasm_top.specs.Answer.{spelled, printed, stripped, matched, ran, launched, unless_same, once_part, once_moves, on_words, answer, ReadsScript, FindsMarks}
 use Rattle.ctwasm_top.specs.ValidCalls.{HoldsValid, HoldsModule, HoldParts, HoldsSet, HoldsSession, HoldsScript, HoldsInputs, IsSpelledAgain, IsPrinted, IsSpelledErased, WritesModule}
 use Rattle.ctwasm_top.proofs.There.{there, text_there}
+use Rattle.ctwasm_top.proofs.Assembled.{text_done as assembled_done, text_holds as assembled_holds, text_written as assembled_written}
 use Rattle.ctwasm_top.proofs.WorkWords.{IsFew, words_few}
 use Rattle.ctwasm_top.proofs.WorkRuns.{work_passed}
 use Rattle.ctwasm_top.proofs.Inferred.{infer_done, infer_passed}
@@ -242,6 +243,7 @@ module _ (files : Files) where
   command_held reading found (Some (Work p seed size)) reads finds e = tt
   command_held reading found (Some (Check p name)) reads finds e = valid_done p name files (λ m. codes "ok\n") e
   command_held reading found (Some (Canon name)) reads finds e = canon_done name files e
+  command_held reading found (Some (Assemble name)) reads finds e = assembled_done files name e
   command_held reading found (Some (Text p name)) reads finds e = valid_done p name files (λ m. text_of_module m) e
   command_held reading found (Some (Infer p name marks)) reads finds e = infer_done files found p name marks finds e
   command_held reading found (Some (Strip p name)) reads finds e = valid_done p name files (λ m. canon (erase_module m)) e
@@ -272,6 +274,7 @@ module _ (files : Files) where
   command_written reading found None e = tt
   command_written reading found (Some (Check p name)) e = tt
   command_written reading found (Some (Canon name)) e = canon_written name files e
+  command_written reading found (Some (Assemble name)) e = assembled_written files name e
   command_written reading found (Some (Text p name)) e = text_written p name files e
   command_written reading found (Some (Infer p name marks)) e = tt
   command_written reading found (Some (Strip p name)) e = strip_written p name files e
@@ -294,6 +297,7 @@ module _ (files : Files) where
   held_reads None h = tt
   held_reads (Some (Check p name)) h = tt
   held_reads (Some (Canon name)) h = tt
+  held_reads (Some (Assemble name)) h = tt
   held_reads (Some (Text p name)) h = tt
   held_reads (Some (Infer p name marks)) h = tt
   held_reads (Some (Strip p name)) h = tt
@@ -308,6 +312,7 @@ module _ (files : Files) where
   command_passed found (Some (Work p seed size)) h small finds = work_passed p seed size small.1 found finds
   command_passed found (Some (Check p name)) h small finds = not_both _ (valid_holds p name files (λ m. codes "ok\n") h)
   command_passed found (Some (Canon name)) h small finds = not_both _ (ap (λ (a : Outcome). a.status) (canon_given name files h))
+  command_passed found (Some (Assemble name)) h small finds = not_both _ (assembled_holds files name h)
   command_passed found (Some (Text p name)) h small finds = not_both _ (valid_holds p name files (λ m. text_of_module m) h)
   command_passed found (Some (Infer p name marks)) h small finds = infer_passed files found p name marks h finds
   command_passed found (Some (Strip p name)) h small finds = not_both _ (valid_holds p name files (λ m. canon (erase_module m)) h)

@@ -22,3 +22,4 @@ pub mod WorkFacts
 pub mod WorkDone
 pub mod WorkWords
 pub mod WorkRuns
+pub mod Assembled

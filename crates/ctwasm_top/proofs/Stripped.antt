@@ -1,5 +1,5 @@
 -- What is executed does the same when it is stripped.
-use Rattle.std.proofs.Common.{◌≡◌, ◌≤◌, ◌-◌, ℕ, List, [], ◌∷◌, length, Option, Some, None, Result, Ok, All, sym, ap, ◌∙◌, subst, codes}
+use Rattle.std.proofs.Common.{◌≡◌, ◌≤◌, ◌-◌, ℕ, List, [], ◌∷◌, length, Option, Some, None, Result, Ok, Err, All, sym, ap, ◌∙◌, subst, codes}
 use Rattle.std.proofs.lemmas.List.Elements.{All-nil, All-cons}
 use Rattle.std.specs.FinMap.{get}
 use Rattle.ctw_io.specs.Files.{Files}
@@ -27,10 +27,13 @@ use Rattle.ctw_infer.specs.declared.fault.InferFault.{InferFault}
 use Rattle.ctw_gen.specs.Workload.{marks, vault}
 use Rattle.ctw_workloads.specs.Placed.{workload_under}
 use Rattle.ctw_workloads.proofs.Launch.{set_matches}
+use Rattle.ctw_text.specs.Denotes.{Fault}
+use Rattle.ctw_parse.specs.Assembled.{assembled}
+use Rattle.ctwasm_top.specs.Texts.{text_limit, text_line, on_assembled, text_answer}
 use Rattle.ctwasm_top.specs.Works.{alone, work_answer}
 use Rattle.ctwasm_top.proofs.WorkWords.{IsFew, words_few}
 use Rattle.ctwasm_top.proofs.WorkRuns.{executed, set_valid, set_within, vault_octets}
-use Rattle.ctwasm_top.specs.Words.{Command, Check, Canon, Text, Infer, Strip, Link, Run, Once, Work, command_of}
+use Rattle.ctwasm_top.specs.Words.{Command, Check, Canon, Assemble, Text, Infer, Strip, Link, Run, Once, Work, command_of}
 use Rattle.ctw_ops.specs.Erasure.{erase_module}
 use Rattle.ctw_form.specs.Read.{module_at}
 use Rattle.ctw_write.specs.Canon.{canon}
@@ -93,6 +96,10 @@ module _ (files : Files) (octets : AreOctets files) (e : Execution) where
   none_ended : (status : Status) (text : List ℕ) → Executes (ends status text) → ⊥
   none_ended status text q = let d : None ≡ Some e = q in cc
 
+  none_assembled : (r : Result (Module Label) Fault) → Executes (on_assembled r) → ⊥
+  none_assembled (Ok m) q = none_ended Done (canon m) q
+  none_assembled (Err fault) q = none_ended Refused (text_line fault) q
+
   parts_come : (profile : Profile) (parts : List NamedFile) (contents : List (List ℕ)) (name vault sealed : List ℕ) (moves : List Move) → HoldBytes files modules_limit parts contents → get files name ≡ Some vault
       → Executes (launched profile parts contents vault (ran sealed moves)) → Comes e
   parts_come profile parts contents name vault sealed moves h v q =
@@ -140,6 +147,10 @@ module _ (files : Files) (octets : AreOctets files) (e : Execution) where
       let f = file_goes Executes none_refused file module_limit (get files file) (spelled file) q in
       let r = form_goes Executes none_refused file (module_at f.0) (λ (m : Module Label). ends Done (canon m)) f.3 in
       absurd (none_done (canon r.0) r.2)
+  command_comes reading found (Some (Assemble file)) few finds q =
+      let f = file_goes Executes none_refused file text_limit (get files file) (text_answer file) q in
+      let t = text_goes Executes none_refused file f.0 (λ (text : List ℕ). on_assembled (assembled text)) f.3 in
+      absurd (none_assembled (assembled f.0) t.1)
   command_comes reading found (Some (Text p file)) few finds q =
       let f = file_goes Executes none_refused file module_limit (get files file) (printed p file) q in
       let v = valid_goes Executes none_refused p file f.0 (λ (m : Module Label). ends Done (text_of_module m)) f.3 in

@@ -6,7 +6,7 @@ use Rattle.std.proofs.lemmas.Bool.{leb-true}
 use Rattle.ctw_ops.specs.declared.numeric.Profile.{Profile}
 use Rattle.ctw_ops.specs.declared.numeric.Profile.TheVariants.{Divide, Multiply}
 use Rattle.ctwasm_top.specs.SessionWords.{run_words, once_words}
-use Rattle.ctwasm_top.specs.Words.{Command, Check, Canon, Text, Infer, Strip, Link, Run, Once, Work, within, number_word, seed_and_size, work_words, file_words, infer_words, link_words, or_command, profiled_command, mul_command, command_of}
+use Rattle.ctwasm_top.specs.Words.{Command, Check, Canon, Assemble, Text, Infer, Strip, Link, Run, Once, Work, within, number_word, seed_and_size, work_words, file_words, infer_words, link_words, or_command, profiled_command, mul_command, command_of}
 
 -- a seed below 2^31, and a size of at most 20,000
 abbrev pub HasFewNumbers : Command → Type 0
@@ -82,11 +82,16 @@ mul_few (word ∷ words) = at (bytes_eq word (codes "mul"))
     at false = tt
 
 pub words_few : (words : List (List ℕ)) → IsFew (command_of words)
-words_few words = or_few _ _ (profiled_few Divide words) (or_few _ _ (mul_few words) (canon_few (file_words (codes "canon") words)))
+words_few words =
+    or_few _ _ (profiled_few Divide words) (or_few _ _ (mul_few words) (or_few _ _ (canon_few (file_words (codes "canon") words)) (text_few (file_words (codes "assemble") words))))
   where
     canon_few : (o : Option (List ℕ)) → IsFew (option_map Canon o)
     canon_few None = tt
     canon_few (Some file) = tt
+
+    text_few : (o : Option (List ℕ)) → IsFew (option_map Assemble o)
+    text_few None = tt
+    text_few (Some file) = tt
 
 -- so the numbers of words that are read as `work` are few
 pub work_numbers : (words : List (List ℕ)) (profile : Profile) (seed size : ℕ) → command_of words ≡ Some (Work profile seed size) → (seed < 2 ^ 31) × (size ≤ 20000)

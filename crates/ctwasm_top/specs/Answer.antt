@@ -27,10 +27,11 @@ use Rattle.ctw_inputs.specs.Settling.{Reads}
 use Rattle.ctwasm_top.specs.Lines.{linked_line, told_lines}
 use Rattle.ctwasm_top.specs.Usage.{usage_text}
 use Rattle.ctwasm_top.specs.SessionWords.{OnceWords, RunWords, same_in_once, same_in_run}
-use Rattle.ctwasm_top.specs.Words.{Command, Check, Canon, Text, Infer, Strip, Link, Run, Once, Work, command_of}
+use Rattle.ctwasm_top.specs.Words.{Command, Check, Canon, Assemble, Text, Infer, Strip, Link, Run, Once, Work, command_of}
 use Rattle.ctwasm_top.specs.Inference.{Found, inferred, IsFound}
 use Rattle.ctwasm_top.specs.Marked.{HoldsMarked}
 use Rattle.ctwasm_top.specs.Launching.{on_launch}
+use Rattle.ctwasm_top.specs.Texts.{assemble_answer}
 use Rattle.ctwasm_top.specs.Works.{work_answer}
 
 -- ---- the commands `check`, `canon`, `text`, `strip` and `link`
@@ -111,6 +112,7 @@ run_answer files profile reading w =
 abbrev pub command_answer : Files → Result (List Move) ScriptFault → Found → Command → Outcome
 command_answer files reading found (Check profile file) = load files file module_limit (checked profile file)
 command_answer files reading found (Canon file) = load files file module_limit (spelled file)
+command_answer files reading found (Assemble file) = assemble_answer files file
 command_answer files reading found (Text profile file) = load files file module_limit (printed profile file)
 command_answer files reading found (Infer profile file marks) = infer_answer files found profile file marks
 command_answer files reading found (Strip profile file) = load files file module_limit (stripped profile file)

@@ -6,6 +6,7 @@ use Rattle.ctwasm_top.specs.Words as words
 abbrev pub command_in : Command → words.Command
 command_in (read.Check profile file) = words.Check profile file.now
 command_in (read.Canon file) = words.Canon file.now
+command_in (read.Assemble file) = words.Assemble file.now
 command_in (read.Text profile file) = words.Text profile file.now
 command_in (read.Infer profile file marks) = words.Infer profile file.now marks.now
 command_in (read.Strip profile file) = words.Strip profile file.now

@@ -8,6 +8,7 @@ pub mod Launching
 pub mod Marked
 pub mod Inference
 pub mod Works
+pub mod Texts
 pub mod Answer
 pub mod Findings
 pub mod Headline

@@ -16,6 +16,9 @@ use Rattle.ctw_labels.specs.Kept.{IsKept}
 use Rattle.ctw_sites.specs.Packed.{most_sites}
 use Rattle.ctw_marks.specs.Readings.{MarkList, HasReading}
 use Rattle.ctw_text.specs.Denotes.{assembled}
+use Rattle.ctw_parse.specs.Assembled.{assembled as text_module}
+use Rattle.ctw_write.specs.Canon.{canon}
+use Rattle.ctwasm_top.specs.Texts.{text_limit}
 use Rattle.ctw_link.specs.Sets.{ModuleSet}
 use Rattle.ctw_link.specs.Matching.{AreMatching}
 use Rattle.ctw_script.specs.declared.moves.Move.{Move}
@@ -24,7 +27,7 @@ use Rattle.ctw_moves.specs.LaunchedStates.{Ready, launch}
 use Rattle.ctw_inputs.specs.Inputs.{NamedFile, module_limit, modules_limit, script_limit, vault_limit}
 use Rattle.ctw_inputs.specs.Settling.{Reads}
 use Rattle.ctwasm_top.specs.SessionWords.{same_in_once, same_in_run}
-use Rattle.ctwasm_top.specs.Words.{Command, Check, Canon, Text, Infer, Strip, Link, Run, Once, Work}
+use Rattle.ctwasm_top.specs.Words.{Command, Check, Canon, Assemble, Text, Infer, Strip, Link, Run, Once, Work}
 use Rattle.ctwasm_top.specs.Answer.{once_part}
 use Rattle.ctwasm_top.specs.Marked.{HoldsMarked}
 
@@ -44,6 +47,15 @@ pub record HoldsModule (files : Files) (name : List ℕ) : Type 0 where
   pub short : length bytes ≤ module_limit
   pub tree : Module Label
   pub spelled : Spells bytes tree
+
+-- the file is there, within its limit, and a text that denotes a module
+pub record HoldsText (files : Files) (name : List ℕ) : Type 0 where
+  pub bytes : List ℕ
+  pub told : get files name ≡ Some bytes
+  pub short : length bytes ≤ text_limit
+  pub is_text : is_utf8 bytes ≡ true
+  pub tree : Module Label
+  pub denotes : text_module bytes ≡ Ok tree
 
 -- ---- marks
 
@@ -104,6 +116,7 @@ HoldsInputs files None = ⊥
 HoldsInputs files (Some (Work profile seed size)) = Unit {0}
 HoldsInputs files (Some (Check profile name)) = HoldsValid files profile name
 HoldsInputs files (Some (Canon name)) = HoldsModule files name
+HoldsInputs files (Some (Assemble name)) = HoldsText files name
 HoldsInputs files (Some (Text profile name)) = HoldsValid files profile name
 HoldsInputs files (Some (Infer profile name marks)) = HoldsInference files profile name marks
 HoldsInputs files (Some (Strip profile name)) = HoldsValid files profile name
@@ -122,6 +135,14 @@ pub record IsSpelledAgain (files : Files) (name out : List ℕ) : Type 0 where
   pub tree : Module Label
   pub spelled : Spells bytes tree
   pub again : Spells out tree
+
+-- what is written for a text that denotes a module: the canonical bytes of the module
+pub record IsAssembledText (files : Files) (name out : List ℕ) : Type 0 where
+  pub bytes : List ℕ
+  pub told : get files name ≡ Some bytes
+  pub tree : Module Label
+  pub denotes : text_module bytes ≡ Ok tree
+  pub spelled : out ≡ canon tree
 
 -- what is written for a file whose bytes spell a module: a text that denotes that module
 pub record IsPrinted (files : Files) (name out : List ℕ) : Type 0 where
@@ -144,6 +165,7 @@ pub record IsSpelledErased (files : Files) (name out : List ℕ) : Type 0 where
 -- what module it is whose bytes or text the command writes
 abbrev pub WritesModule : Files → Option Command → List ℕ → Type 0
 WritesModule files (Some (Canon name)) out = IsSpelledAgain files name out
+WritesModule files (Some (Assemble name)) out = IsAssembledText files name out
 WritesModule files (Some (Text profile name)) out = IsPrinted files name out
 WritesModule files (Some (Strip profile name)) out = IsSpelledErased files name out
 WritesModule files command out = Unit {0}

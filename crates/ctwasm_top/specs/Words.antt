@@ -9,10 +9,11 @@ use Rattle.ctwasm_top.specs.SessionWords.{OnceWords, RunWords, once_words, run_w
 
 -- The commands with their files: `check M`, `canon M`, `text M`, `infer M MARKS`, `strip M`, `link NAME=M..`,
 -- `run SCRIPT VAULT SEALED NAME=M..`, `once M VAULT SEALED EXPORT ARG..` and `work SEED SIZE`, and the profile of their
--- modules.
+-- modules; and `assemble T`.
 pub data Command : Type 0 where
   Check : (profile : Profile) (module_file : List ℕ) → Command
   Canon : (module_file : List ℕ) → Command
+  Assemble : (text_file : List ℕ) → Command
   Text : (profile : Profile) (module_file : List ℕ) → Command
   Infer : (profile : Profile) (module_file marks_file : List ℕ) → Command
   Strip : (profile : Profile) (module_file : List ℕ) → Command
@@ -79,7 +80,9 @@ mul_command [] = None
 abbrev pub command_of : List (List ℕ) → Option Command
 command_of words =
     or_command (profiled_command Divide words)
-    (or_command (mul_command words) (option_map Canon (file_words (codes "canon") words)))
+    (or_command (mul_command words)
+    (or_command (option_map Canon (file_words (codes "canon") words))
+    (option_map Assemble (file_words (codes "assemble") words))))
 
 -- the word of a command's vault, where the command has one
 abbrev pub vault_in : Option Command → Option (List ℕ)
@@ -99,6 +102,7 @@ LoadsFiles (Some (Run profile w)) = same_in_run w ≡ None
 LoadsFiles (Some (Once profile w)) = same_in_once w ≡ None
 LoadsFiles (Some (Check profile file)) = Unit {0}
 LoadsFiles (Some (Canon file)) = Unit {0}
+LoadsFiles (Some (Assemble file)) = Unit {0}
 LoadsFiles (Some (Text profile file)) = Unit {0}
 LoadsFiles (Some (Infer profile file marks)) = Unit {0}
 LoadsFiles (Some (Strip profile file)) = Unit {0}

@@ -8,6 +8,7 @@ mod lines;
 mod running;
 mod saying;
 mod sessions;
+mod texts;
 mod words;
 mod working;
 
@@ -41,6 +42,7 @@ use inferring::infer_file;
 use running::{once, run};
 use saying::{say, settle};
 use std::alloc::Global;
+use texts::assemble_file;
 use words::{Command, command_of};
 use working::work;
 
@@ -82,6 +84,7 @@ fn dispatch<F: Shelf, K: Sink>(
             settle(out, check_file(alloc, profile, file, shelf))
         }
         Some(Command::Canon(file)) => settle(out, canon_file(alloc, file, shelf)),
+        Some(Command::Assemble(file)) => settle(out, assemble_file(alloc, file, shelf)),
         Some(Command::Text(profile, file)) => {
             settle(out, text_file(alloc, profile, file, shelf))
         }
@@ -102,9 +105,9 @@ fn dispatch<F: Shelf, K: Sink>(
 
 /// Does what the words after the program's name say, over these files and this place for text.
 ///
-/// For now it has the commands `check M`, `canon M`, `text M`, `infer M MARKS`, `strip M`, `link NAME=M..`,
-/// `run SCRIPT VAULT SEALED NAME=M..`, `once M VAULT SEALED EXPORT ARG..` and `work SEED SIZE`. Before all but `canon` the
-/// word `mul` may stand, under which multiplications leak as divisions do. All other words are a wrong use, whose text is written. The text of each move is written before the
+/// The commands are `check M`, `canon M`, `text M`, `assemble T`, `infer M MARKS`, `strip M`, `link NAME=M..`,
+/// `run SCRIPT VAULT SEALED NAME=M..`, `once M VAULT SEALED EXPORT ARG..` and `work SEED SIZE`. Before all but `canon` and
+/// `assemble` the word `mul` may stand, under which multiplications leak as divisions do. All other words are a wrong use, whose text is written. The text of each move is written before the
 /// next is made, every text before a file is saved, and files are saved in the last place.
 pub fn ctwasm<F: Shelf, K: Sink>(
     alloc: Global,
@@ -123,15 +126,16 @@ pub fn ctwasm<F: Shelf, K: Sink>(
         → (reading : Result (List Move) ScriptFault) × ReadsScript (command_of (map string_bytes words.now)) files reading }
 
     // The work is done only for files that hold what the command asks for, and no such files are refused: a module that
-    // bytes spell, a valid one under the words' profile, such modules that match, and for `run` and `once` such a set that
-    // is launched with the vault, and a script that stands for moves.
+    // bytes spell or a text denotes, a valid one under the words' profile, such modules that match, and for `run` and `once`
+    // such a set that is launched with the vault, and a script that stands for moves. `work` asks for none.
     ensures held { (files : Files) → F.files shelf.old ≡ Some files → result ≡ Done
         → HoldsInputs files (command_of (map string_bytes words.now)) }
     ensures complete { (files : Files) → F.files shelf.old ≡ Some files
         → HoldsInputs files (command_of (map string_bytes words.now)) → result ≢ Refused }
 
-    // `canon` writes bytes that spell the file's module, `text` a text that denotes it, and `strip` bytes that spell the
-    // erased module, if they aren't longer than a plain module's file may be.
+    // `canon` writes bytes that spell the file's module, `text` a text that denotes it, `assemble` the canonical bytes of
+    // the module that a text denotes, and `strip` bytes that spell the erased module, if they aren't longer than a plain
+    // module's file may be.
     ensures written { (files : Files) (reading : Result (List Move) ScriptFault) (found : Found)
         → (answer (map string_bytes words.now) files reading found).status ≡ Done
         → WritesModule files (command_of (map string_bytes words.now))

@@ -318,6 +318,8 @@ pub enum Command<'a> {
     Check(Profile, &'a str),
     /// `canon M`.
     Canon(&'a str),
+    /// `assemble T`.
+    Assemble(&'a str),
     /// `text M`, under a profile.
     Text(Profile, &'a str),
     /// `infer M MARKS`, under a profile.
@@ -457,8 +459,11 @@ pub fn command_of(words: &[String]) -> Option<Command<'_>>
     if let Some(command) = mul_command(words) {
         return Some(command);
     }
-    match file_word("canon", words) {
-        Some(file) => Some(Command::Canon(file)),
+    if let Some(file) = file_word("canon", words) {
+        return Some(Command::Canon(file));
+    }
+    match file_word("assemble", words) {
+        Some(file) => Some(Command::Assemble(file)),
         None => None,
     }
 }

@@ -48,6 +48,18 @@ returns-in-Some-Canon-clause-causes g c =
     command_causes (map string_bytes c.args.words.now) _ (sym c.in-Some-Canon.ensures ∙ ap (λ (k : Command). Some (command_in k)) c.in-Some-Canon.field-0-is) c.settle-in-Some-Canon.result _ _ _ _ _ _
     (settled_causes _ c.settle-in-Some-Canon.result c.canon_file.result _ _ _ _ _ _ tt c.canon_file.ensures.cause c.settle-in-Some-Canon.ensures.read c.settle-in-Some-Canon.ensures.write c.settle-in-Some-Canon.ensures.quiet)
 
+pub returns-in-Some-Assemble-clause-did : goal.returns-in-Some-Assemble-clause-did
+returns-in-Some-Assemble-clause-did g c = λ files reading told h.
+    says_command (map string_bytes c.args.words.now) files _ (sym c.in-Some-Assemble.ensures ∙ ap (λ (k : Command). Some (command_in k)) c.in-Some-Assemble.field-0-is) reading nothing_found c.settle-in-Some-Assemble.result c.assemble_file.result _ _ _ _ told c.assemble_file.ensures.unchanged (inl tt) (c.assemble_file.ensures.told files told) c.settle-in-Some-Assemble.ensures.did
+
+pub returns-in-Some-Assemble-clause-read : goal.returns-in-Some-Assemble-clause-read
+returns-in-Some-Assemble-clause-read g c = λ files told done. (Ok [], command_reads (map string_bytes c.args.words.now) files _ (sym c.in-Some-Assemble.ensures ∙ ap (λ (k : Command). Some (command_in k)) c.in-Some-Assemble.field-0-is) (Ok []) tt)
+
+pub returns-in-Some-Assemble-clause-causes : goal.returns-in-Some-Assemble-clause-causes
+returns-in-Some-Assemble-clause-causes g c =
+    command_causes (map string_bytes c.args.words.now) _ (sym c.in-Some-Assemble.ensures ∙ ap (λ (k : Command). Some (command_in k)) c.in-Some-Assemble.field-0-is) c.settle-in-Some-Assemble.result _ _ _ _ _ _
+    (settled_causes _ c.settle-in-Some-Assemble.result c.assemble_file.result _ _ _ _ _ _ tt c.assemble_file.ensures.cause c.settle-in-Some-Assemble.ensures.read c.settle-in-Some-Assemble.ensures.write c.settle-in-Some-Assemble.ensures.quiet)
+
 pub returns-in-Some-Text-clause-did : goal.returns-in-Some-Text-clause-did
 returns-in-Some-Text-clause-did g c = λ files reading told h.
     says_command (map string_bytes c.args.words.now) files _ (sym c.in-Some-Text.ensures ∙ ap (λ (k : Command). Some (command_in k)) c.in-Some-Text.field-0-is) reading nothing_found c.settle-in-Some-Text.result c.text_file.result _ _ _ _ told c.text_file.ensures.unchanged (inl tt) (c.text_file.ensures.told files told) c.settle-in-Some-Text.ensures.did
