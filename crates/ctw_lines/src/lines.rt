@@ -49,7 +49,8 @@ pub fn add_number_word(line: &mut Vec<u8>, number: u32) -> Result<(), AllocError
     add_number(line, number)
 }
 
-fn what_word(what: What) -> &'static [u8]
+/// The word for what is too much.
+pub fn what_word(what: What) -> &'static [u8]
     ensures { result.now ≡ what_word what }
 {
     match what {

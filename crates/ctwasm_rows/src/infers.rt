@@ -7,13 +7,13 @@ use std::process::Abort;
 
 /// `eq` of type (i32 i32) to (i32), with two locals and one page, exported as `mem`: whether 32 bytes at two places are
 /// equal.
-const EQUAL: &str = "\
+pub const EQUAL: &str = "\
 00 61 73 6D 01 00 00 00 01 07 01 60 02 7F 7F 01 7F 03 02 01 00 05 03 01 00 01 07 0C 02 03 6D 65
 6D 02 00 02 65 71 00 00 0A 2E 01 2C 01 02 7F 03 40 20 03 20 00 20 02 6A 2D 00 00 20 01 20 02 6A
 2D 00 00 73 72 21 03 20 02 41 01 6A 22 02 41 20 49 0D 00 0B 20 03 45 0B";
 
 /// The same as a compiler may write it: with numbers that are longer than they need be, and custom sections.
-const EQUAL_PADDED: &str = "\
+pub const EQUAL_PADDED: &str = "\
 00 61 73 6D 01 00 00 00 00 0A 09 70 72 6F 64 75 63 65 72 73 01 88 00 81 00 60 02 7F 7F 01 7F
 03 02 01 00 05 03 01 00 01 07 0C 02 03 6D 65 6D 02 00 02 65 71 00 00
 0A AE 80 00 01 2C 01 02 7F 03 40 20 03 20 00 20 02 6A 2D 00 00 20 01 20 02 6A
@@ -27,25 +27,25 @@ const EQUAL_AGAIN: &str = "\
 2D 00 00 73 72 21 03 20 02 41 01 6A 22 02 41 20 49 0D 00 0B 20 03 45 0B 00 05 04 6E 61 6D 65";
 
 /// Two bytes of the memory are compared, and a branch is taken on the result.
-const EARLY: &str = "\
+pub const EARLY: &str = "\
 00 61 73 6D 01 00 00 00 01 07 01 60 02 7F 7F 01 7F 03 02 01 00 05 03 01 00 01 0A 17 01 15 00 20
 00 2D 00 00 20 01 2D 00 00 47 04 40 41 00 0F 0B 41 01 0B";
 
 /// A load at a parameter.
-const LOAD: &str = "\
+pub const LOAD: &str = "\
 00 61 73 6D 01 00 00 00 01 06 01 60 01 7F 01 7F 03 02 01 00 05 03 01 00 01 0A 09 01 07 00 20 00
 28 02 00 0B";
 
 /// A memory, and no function.
-const MEMORY: &str = "00 61 73 6D 01 00 00 00 05 03 01 00 01";
+pub const MEMORY: &str = "00 61 73 6D 01 00 00 00 05 03 01 00 01";
 
 /// Three functions of type (i32) to (i32) that give their argument.
-const THREE: &str = "\
+pub const THREE: &str = "\
 00 61 73 6D 01 00 00 00 01 06 01 60 01 7F 01 7F 03 04 03 00 00 00
 0A 10 03 04 00 20 00 0B 04 00 20 00 0B 04 00 20 00 0B";
 
 /// `bit` of type (i32) to (i32): the lowest bit of its argument.
-const BIT: &str = "\
+pub const BIT: &str = "\
 00 61 73 6D 01 00 00 00 01 06 01 60 01 7F 01 7F 03 02 01 00 07 07 01 03 62 69 74 00 00
 0A 09 01 07 00 20 00 41 01 71 0B";
 
@@ -55,7 +55,7 @@ const CALLED_BIT: &str = "\
 0A 10 02 07 00 20 00 41 01 71 0B 06 00 20 00 10 00 0B";
 
 /// `f` of type (i32) to (i32): the square of its argument.
-const SQUARE: &str = "\
+pub const SQUARE: &str = "\
 00 61 73 6D 01 00 00 00 01 06 01 60 01 7F 01 7F 03 02 01 00 07 05 01 01 66 00 00
 0A 09 01 07 00 20 00 20 00 6C 0B";
 

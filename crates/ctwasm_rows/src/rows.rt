@@ -7,7 +7,7 @@ use std::alloc::Global;
 use std::process::Abort;
 
 /// A plain module without anything.
-const HEADER: &str = "00 61 73 6D 01 00 00 00";
+pub const HEADER: &str = "00 61 73 6D 01 00 00 00";
 
 /// `f` of type (s32 i32) to (s32): the sum of its arguments, the second one classified first.
 pub const ADDER: &str = "\

@@ -43,6 +43,18 @@ pub fn shelf_of(rt: &impl Abort, alloc: Global, files: &[(&str, &str)]) -> SureS
     shelf
 }
 
+/// What the words of a line write over this shelf, where they do their work.
+pub fn written(rt: &impl Abort, alloc: Global, line: &str, shelf: &mut impl Shelf) -> Vec<u8> {
+    let words = words_of(alloc, line).expect(rt, "memory");
+    let mut out = SureSink::new(alloc, 1000);
+    assert_eq!(rt;
+        ctwasm(alloc, &words, shelf, &mut out),
+        Status::Done,
+        "{line}"
+    );
+    Vec::from_slice(alloc, out.taken()).expect(rt, "memory")
+}
+
 /// The words of a line, over this shelf, have this status, and these bytes are written.
 pub fn writes(
     rt: &impl Abort,

@@ -81,12 +81,12 @@ fn calls(
 }
 
 /// `f` of type (i32 i32) to (i32): local.get 0 local.get 1 i32.rem_s end.
-const REMAINDER: &str = "\
+pub const REMAINDER: &str = "\
 00 61 73 6D 01 00 00 00 01 07 01 60 02 7F 7F 01 7F 03 02 01 00 07 05 01 01 66 00 00 0A 09 01 07 00 20 00 20 01
 6F 0B";
 
 /// The same with i32.div_s.
-const QUOTIENT: &str = "\
+pub const QUOTIENT: &str = "\
 00 61 73 6D 01 00 00 00 01 07 01 60 02 7F 7F 01 7F 03 02 01 00 07 05 01 01 66 00 00 0A 09 01 07 00 20 00 20 01
 6D 0B";
 
@@ -112,7 +112,7 @@ const LOAD: &str = "\
 20 00 28 02 00 0B";
 
 /// The same with the offset 4294967295.
-const FAR_LOAD: &str = "\
+pub const FAR_LOAD: &str = "\
 00 61 73 6D 01 00 00 00 01 06 01 60 01 7F 01 7F 03 02 01 00 05 03 01 00 01 07 05 01 01 66 00 00 0A 0D 01 0B 00
 20 00 28 02 FF FF FF FF 0F 0B";
 
@@ -133,7 +133,7 @@ fn a_load_past_the_end_is_told_and_traps(rt: HostRuntime) {
 }
 
 /// A secret memory of 1 to 2 pages, and `f` of type (i32) to (i32): local.get 0 memory.grow end.
-const GROW: &str = "\
+pub const GROW: &str = "\
 00 61 73 6D 01 00 43 54 01 06 01 60 01 7F 01 7F 03 02 01 00 05 04 01 11 01 02 07 05 01 01 66 00 00 0A 08 01 06
 00 20 00 40 00 0B";
 
@@ -196,7 +196,7 @@ fn two_vaults_tell_the_same(rt: HostRuntime) {
 
 /// One page, exported as `mem`, and `w` of type (i32) to (): i32.const 0 local.get 0 i32.store8 i32.const 1 local.get
 /// 0 i32.store8 end.
-const WRITER: &str = "\
+pub const WRITER: &str = "\
 00 61 73 6D 01 00 00 00 01 05 01 60 01 7F 00 03 02 01 00 05 03 01 00 01 07 0B 02 03 6D 65 6D 02 00 01 77 00 00
 0A 12 01 10 00 41 00 20 00 3A 00 00 41 01 20 00 3A 00 00 0B";
 
@@ -253,7 +253,7 @@ fn bytes_are_written_over_the_end_of_a_page(rt: HostRuntime) {
 }
 
 /// `bit` of type trusted (s32) to (i32): local.get 0 s32.const 1 s32.and s32.declassify end.
-const BIT: &str = "\
+pub const BIT: &str = "\
 00 61 73 6D 01 00 43 54 01 06 01 61 01 7A 01 7F 03 02 01 00 07 07 01 03 62 69 74 00 00 0A 0C 01 0A 00 20 00 E0
 41 01 E0 71 E3 0B";
 
@@ -271,7 +271,7 @@ fn what_is_told_depends_on_what_is_declassified(rt: HostRuntime) {
 }
 
 /// `f` of type (s64) to (), with an empty body.
-const WIDE: &str = "\
+pub const WIDE: &str = "\
 00 61 73 6D 01 00 43 54 01 05 01 60 01 79 00 03 02 01 00 07 05 01 01 66 00 00 0A 04 01 02 00 0B";
 
 /// Calls over a vault of seven bytes.
@@ -287,7 +287,7 @@ fn a_number_stands_for_a_secret_where_the_vault_is_short(rt: HostRuntime) {
 }
 
 /// `f` of type () to (): call 0 end.
-const NEST: &str = "\
+pub const NEST: &str = "\
 00 61 73 6D 01 00 00 00 01 04 01 60 00 00 03 02 01 00 07 05 01 01 66 00 00 0A 06 01 04 00 10 00 0B";
 
 /// The same as a CT module.
@@ -312,7 +312,7 @@ fn calls_nest_up_to_the_greatest_weight(rt: HostRuntime) {
 }
 
 /// The start function: loop br 0 end end.
-const START_LOOPS: &str = "\
+pub const START_LOOPS: &str = "\
 00 61 73 6D 01 00 00 00 01 04 01 60 00 00 03 02 01 00 08 01 00 0A 09 01 07 00 03 40 0C 00 0B 0B";
 
 /// The start function: unreachable end.
@@ -321,12 +321,12 @@ const START_TRAPS: &str = "\
 
 /// The same start function, a table of one entry, one page, an element inside and one outside, and a data segment
 /// outside.
-const ELEMENT_OUTSIDE: &str = "\
+pub const ELEMENT_OUTSIDE: &str = "\
 00 61 73 6D 01 00 00 00 01 04 01 60 00 00 03 02 01 00 04 04 01 70 00 01 05 03 01 00 01 08 01 00 09 0D 02 00 41
 00 0B 01 00 00 41 01 0B 01 00 0A 05 01 03 00 00 0B 0B 09 01 00 41 80 80 04 0B 01 01";
 
 /// The same start function, one page, no bytes of data at its end, and two bytes of data over its end.
-const DATA_OUTSIDE: &str = "\
+pub const DATA_OUTSIDE: &str = "\
 00 61 73 6D 01 00 00 00 01 04 01 60 00 00 03 02 01 00 05 03 01 00 01 08 01 00 0A 05 01 03 00 00 0B 0B 11 02 00
 41 80 80 04 0B 00 00 41 FF FF 03 0B 02 01 02";
 
@@ -427,7 +427,7 @@ fn each_refusal_of_a_run_has_its_line(rt: HostRuntime) {
 
 /// Functions of type (i32) to (i32) that give their parameter: the first and the third under the first type entry, the
 /// second under its variant (s32) to (s32).
-const VARIANT: &str = "\
+pub const VARIANT: &str = "\
 00 61 73 6D 01 00 43 54 01 0D 02 60 01 7F 01 7F 62 00 00 01 7A 01 7A 03 04 03 00 01 00
 0A 10 03 04 00 20 00 0B 04 00 20 00 0B 04 00 20 00 0B";
 
@@ -525,7 +525,7 @@ fn a_multiplication_is_told_behind_mul_alone(rt: HostRuntime) {
 /// `u`: unreachable end. `d`: i32.const 1 local.get 0 i32.div_u drop end. `c`: local.get 0 and an indirect call of
 /// type () to (). `b`: block block local.get 0 br_table 0 1 end end end. `i`: local.get 0 if nop else end end. `e`:
 /// local.get 0 call 4 end.
-const EVENTS: &str = "\
+pub const EVENTS: &str = "\
 00 61 73 6D 01 00 00 00 01 08 02 60 00 00 60 01 7F 00 03 07 06 00 01 01 01 01 01 04 04 01 70 00 03 07 19 06 01
 75 00 00 01 64 00 01 01 63 00 02 01 62 00 03 01 69 00 04 01 65 00 05 09 08 01 00 41 00 0B 02 00 01 0A 36 06 03
 00 00 0B 08 00 41 01 20 00 6E 1A 0B 07 00 20 00 11 00 00 0B 0E 00 02 40 02 40 20 00 0E 01 00 01 0B 0B 0B 09 00
@@ -560,7 +560,7 @@ fn each_event_and_each_trap_has_its_line(rt: HostRuntime) {
 
 /// A secret memory of one page, exported as `mem`, and functions that give their parameter: `k` of type (s64) to (s64)
 /// and `o` of type (i64) to (i64).
-const KEEPER: &str = "\
+pub const KEEPER: &str = "\
 00 61 73 6D 01 00 43 54 01 0B 02 60 01 79 01 79 60 01 7E 01 7E 03 03 02 00 01 05 03 01 10 01 07 0F 03 03 6D 65
 6D 02 00 01 6B 00 00 01 6F 00 01 0A 0B 02 04 00 20 00 0B 04 00 20 00 0B";
 
@@ -670,7 +670,7 @@ const INNER: &str = "\
 00 61 73 6D 01 00 00 00 01 06 01 60 01 7F 01 7F 03 02 01 00 07 05 01 01 67 00 00 0A 06 01 04 00 20 00 0B";
 
 /// An import `a` `g` of that type, exported as `again`, and `h` of that type, which calls it.
-const OUTER: &str = "\
+pub const OUTER: &str = "\
 00 61 73 6D 01 00 00 00 01 06 01 60 01 7F 01 7F 02 07 01 01 61 01 67 00 00 03 02 01 00 07 0D 02 01 68 00 01 05
 61 67 61 69 6E 00 00 0A 08 01 06 00 20 00 10 00 0B";
 

@@ -1,5 +1,11 @@
-use crate::rows::ADDER;
-use crate::runs::says_of;
+use crate::infers::{BIT as PLAIN_BIT, EARLY, EQUAL, EQUAL_PADDED, LOAD, MEMORY, SQUARE, THREE};
+use crate::rows::{ADDER, CALL, HEADER, OWN_CALL, TABLE};
+use crate::runs::{says_of, shelf_of, written};
+use crate::sessions::{
+    BIT, DATA_OUTSIDE, ELEMENT_OUTSIDE, EVENTS, FAR_LOAD, GROW, KEEPER, NEST, OUTER, QUOTIENT,
+    REMAINDER, START_LOOPS, VARIANT, WIDE, WRITER,
+};
+use ctw_io::Shelf;
 
 #[test]
 fn a_module_is_printed_as_text(rt: HostRuntime) {
@@ -73,4 +79,46 @@ fn under_the_multiply_profile_a_product_of_secrets_is_not_printed(rt: HostRuntim
     says_of(&rt, rt.alloc(), "text m", square, text);
     let refused = "refused check m Body 0 at 2 SecretPlace Divide\n";
     says_of(&rt, rt.alloc(), "mul text m", square, refused);
+}
+
+#[test]
+fn each_printed_row_is_assembled_to_its_canonical_bytes(rt: HostRuntime) {
+    let modules = [
+        HEADER,
+        ADDER,
+        TABLE,
+        CALL,
+        OWN_CALL,
+        EQUAL,
+        EQUAL_PADDED,
+        EARLY,
+        LOAD,
+        MEMORY,
+        THREE,
+        PLAIN_BIT,
+        SQUARE,
+        REMAINDER,
+        QUOTIENT,
+        FAR_LOAD,
+        GROW,
+        WRITER,
+        BIT,
+        WIDE,
+        NEST,
+        START_LOOPS,
+        VARIANT,
+        ELEMENT_OUTSIDE,
+        DATA_OUTSIDE,
+        EVENTS,
+        KEEPER,
+        OUTER,
+    ];
+    for module in modules {
+        let mut shelf = shelf_of(&rt, rt.alloc(), &[("m", module)]);
+        let text = written(&rt, rt.alloc(), "text m", &mut shelf);
+        assert_eq!(rt; shelf.save("t", &text), Ok(()));
+        let canonical = written(&rt, rt.alloc(), "canon m", &mut shelf);
+        let assembled = written(&rt, rt.alloc(), "assemble t", &mut shelf);
+        assert_eq!(rt; assembled, canonical, "{module}");
+    }
 }

@@ -26,9 +26,9 @@ use Rattle.ctw_semantics.proofs.AlikeSteps.{same_ends}
 use Rattle.ctw_inputs.specs.Outcome.{Outcome}
 use Rattle.ctw_inputs.specs.Inputs.{NamedFile, at_most, module_limit, modules_limit, script_limit, vault_limit, refuses, on_file, load_modules, on_text, on_moves, on_form, on_fault, module_under, read_parts, on_set, linked}
 use Rattle.ctwasm_top.specs.Lines.{told_lines}
-use Rattle.ctwasm_top.specs.SessionWords.{OnceWords, RunWords, same_file, same_in_once, same_in_run}
+use Rattle.ctw_words.specs.SessionWords.{OnceWords, RunWords, same_file, same_in_once, same_in_run}
 use Rattle.ctwasm_top.specs.Inference.{Found}
-use Rattle.ctwasm_top.specs.Words.{Command, Check, Canon, Assemble, Text, Infer, Strip, Link, Run as Runs, Once, Work, command_of, vault_in, vault_word}
+use Rattle.ctw_words.specs.Words.{Command, Check, Canon, Assemble, Text, Infer, Strip, Link, Run as Runs, Once, Work, command_of, vault_in, vault_word}
 use Rattle.ctwasm_top.specs.Launching.{on_launch}
 use Rattle.ctwasm_top.specs.Answer.{ran, launched, unless_same, once_part, once_moves, once_answer, run_answer, on_words, answer, released_in, releases}
 use Rattle.ctwasm_top.specs.Headline.{OtherVault, SameOutcome}

@@ -12,11 +12,11 @@ use Rattle.ctw_inputs.specs.declared.said.Status.{Status}
 use Rattle.ctw_inputs.specs.declared.said.Status.TheVariants as status
 use Rattle.ctw_inputs.specs.Outcome.{Outcome}
 use Rattle.ctw_inputs.specs.Settling.{SaysSo, HasReadCause, Reads}
-use Rattle.ctwasm_top.specs.SessionWords.{RunWords}
+use Rattle.ctw_words.specs.SessionWords.{RunWords}
 use Rattle.ctw_io.specs.Taken.{grown}
 use Rattle.ctw_marks.specs.declared.fault.MarkFault.TheVariants as mark
 use Rattle.ctw_infer.specs.declared.fault.InferFault.TheVariants as infer
-use Rattle.ctwasm_top.specs.Words.{Command, Infer, Run, Work, LoadsFiles, command_of}
+use Rattle.ctw_words.specs.Words.{Command, Infer, Run, Work, LoadsFiles, command_of}
 use Rattle.ctwasm_top.specs.Inference.{Found}
 use Rattle.ctwasm_top.specs.Answer.{on_words, answer, ReadsScript, FindsMarks}
 use Rattle.ctwasm_top.specs.Findings.{OnSaid, SaysFiles}

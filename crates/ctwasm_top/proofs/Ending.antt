@@ -27,7 +27,7 @@ use Rattle.ctw_inputs.specs.Settling.{IsStop, Reads}
 use Rattle.ctw_lines.specs.Lines.{not_text_line}
 use Rattle.ctwasm_top.specs.Headline.{with_saves, AreHalfSaved, Did, DidTold}
 use Rattle.ctwasm_top.specs.Lines.{told_lines}
-use Rattle.ctwasm_top.specs.SessionWords.{OnceWords, RunWords, same_in_once, same_in_run}
+use Rattle.ctw_words.specs.SessionWords.{OnceWords, RunWords, same_in_once, same_in_run}
 use Rattle.ctwasm_top.specs.Answer.{unless_same, ran, launched, once_part, once_moves, once_answer, run_answer}
 use Rattle.ctwasm_top.specs.Sessions.{Told, Writes, IsSaved, ArePartsOf, run_files, run_opened, once_files}
 use Rattle.ctwasm_top.proofs.Settled.{part_of, named_parts}

@@ -26,7 +26,7 @@ use Rattle.ctw_inputs.specs.Outcome.{Outcome, ends}
 use Rattle.ctw_inputs.specs.Inputs.{NamedFile, at_most, module_limit, modules_limit, script_limit, vault_limit, refuses, on_file, load_modules, on_text, on_moves, on_form, on_fault, module_under, read_valid, read_parts, on_set, linked}
 use Rattle.ctwasm_top.proofs.Profiles.{spelled_under, valid_under}
 use Rattle.ctwasm_top.specs.ValidCalls.{HoldParts}
-use Rattle.ctwasm_top.specs.SessionWords.{OnceWords, RunWords, same_in_once, same_in_run}
+use Rattle.ctw_words.specs.SessionWords.{OnceWords, RunWords, same_in_once, same_in_run}
 use Rattle.ctwasm_top.specs.Launching.{on_launch}
 use Rattle.ctwasm_top.specs.Answer.{unless_same, ran, launched, once_part, once_moves, once_answer, run_answer}
 

@@ -33,16 +33,16 @@ use Rattle.ctw_inputs.specs.Outcome.{Outcome, ends}
 use Rattle.ctw_inputs.specs.Inputs.{NamedFile, at_most, module_limit, modules_limit, script_limit, vault_limit, on_file, load_modules, on_text, on_moves, on_form, on_set, read_parts, linked, module_under, read_valid}
 use Rattle.ctw_inputs.specs.Settling.{Reads}
 use Rattle.ctwasm_top.proofs.Profiles.{under_ok, spelled_under, valid_under, module_read_valid}
-use Rattle.ctwasm_top.specs.SessionWords.{OnceWords, RunWords, same_in_once, same_in_run}
+use Rattle.ctw_words.specs.SessionWords.{OnceWords, RunWords, same_in_once, same_in_run}
 use Rattle.ctwasm_top.specs.Inference.{Found}
-use Rattle.ctwasm_top.specs.Words.{Command, Check, Canon, Assemble, Text, Infer, Strip, Link, Run, Once, Work, command_of}
+use Rattle.ctw_words.specs.Words.{Command, Check, Canon, Assemble, Text, Infer, Strip, Link, Run, Once, Work, command_of}
 use Rattle.ctwasm_top.specs.Lines.{linked_line}
 use Rattle.ctwasm_top.specs.Launching.{on_launch}
 use Rattle.ctwasm_top.specs.Answer.{spelled, printed, stripped, matched, ran, launched, unless_same, once_part, once_moves, on_words, answer, ReadsScript, FindsMarks}
 use Rattle.ctwasm_top.specs.ValidCalls.{HoldsValid, HoldsModule, HoldParts, HoldsSet, HoldsSession, HoldsScript, HoldsInputs, IsSpelledAgain, IsPrinted, IsSpelledErased, WritesModule}
 use Rattle.ctwasm_top.proofs.There.{there, text_there}
 use Rattle.ctwasm_top.proofs.Assembled.{text_done as assembled_done, text_holds as assembled_holds, text_written as assembled_written}
-use Rattle.ctwasm_top.proofs.WorkWords.{IsFew, words_few}
+use Rattle.ctw_words.proofs.WorkWords.{IsFew, words_few}
 use Rattle.ctwasm_top.proofs.WorkRuns.{work_passed}
 use Rattle.ctwasm_top.proofs.Inferred.{infer_done, infer_passed}
 use Rattle.ctwasm_top.proofs.Going.{HoldBytes, file_goes, form_goes, fault_goes, load_goes, launch_goes, linked_goes, run_goes, once_goes}

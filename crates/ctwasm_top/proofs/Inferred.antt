@@ -11,13 +11,17 @@ use Rattle.ctw_ops.specs.Plain.{IsPlainModule}
 use Rattle.ctw_ops.proofs.Profiles.{plain_under}
 use Rattle.ctw_ops.specs.Tree.{Module, under}
 use Rattle.ctw_ops.specs.Valid.{IsValid}
+use Rattle.ctw_form.specs.Spelled.{Spells}
 use Rattle.ctw_form.proofs.FileForms.{module_complete}
 use Rattle.ctw_form.proofs.PlainForms.{module_plain}
 use Rattle.ctw_script.specs.declared.moves.Move.{Move}
 use Rattle.ctw_script.specs.declared.script.ScriptFault.{ScriptFault}
 use Rattle.ctw_modcheck.specs.Check.{fault_of}
 use Rattle.ctw_modcheck.proofs.Validity.{valid_is_none}
-use Rattle.ctw_labels.specs.Points.{AreReleases}
+use Rattle.ctw_labels.specs.Names.{Site}
+use Rattle.ctw_labels.specs.Points.{Points, AreReleases}
+use Rattle.ctw_labels.specs.declared.tag.Tag.{Tag}
+use Rattle.ctw_labels.specs.Placed.{placed}
 use Rattle.ctw_labels.specs.Kept.{IsKept}
 use Rattle.ctw_labels.specs.Links.{at_tag}
 use Rattle.ctw_labels.specs.SitedModule.{sites}
@@ -38,13 +42,19 @@ use Rattle.ctw_inputs.specs.declared.said.Status.{Status}
 use Rattle.ctw_inputs.specs.declared.said.Status.TheVariants.{Done, Refused, NoLabelling}
 use Rattle.ctw_inputs.specs.Outcome.{Outcome, ends}
 use Rattle.ctw_inputs.specs.Inputs.{module_limit, marks_limit, on_file, on_text, read_valid, module_under}
-use Rattle.ctwasm_top.specs.Words.{Command, Infer, command_of}
+use Rattle.ctw_words.specs.Words.{Command, Infer, command_of}
 use Rattle.ctwasm_top.specs.Marked.{HoldsMarked}
 use Rattle.ctw_write.specs.Canon.{canon}
+use Rattle.ctw_write.specs.KeepsLimits.{KeepsLimits}
+use Rattle.ctw_write.proofs.FormedModules.{formed_spelled}
+use Rattle.ctw_place.proofs.Limited.{placed_formed}
+use Rattle.ctw_place.proofs.ProfileLaws.{sites_same, placed_same, canon_same}
+use Rattle.ctw_place.proofs.WholeLaws.{spelled_limits}
+use Rattle.ctw_workloads.proofs.UnderProfiles.{valid_under as valid_under_all}
 use Rattle.ctwasm_top.specs.Inference.{Found, IsFound, ReadsMarks, LabelsModule, asked, placed_by, on_labelling, on_labels, on_marks, inferred}
 use Rattle.ctwasm_top.specs.Answer.{infer_answer, answer, on_words, ReadsScript, FindsMarks}
 use Rattle.ctwasm_top.specs.ValidCalls.{HoldsInference}
-use Rattle.ctwasm_top.specs.Headline.{DidFound, HasInferred, DidInfer, ByMarks, BadMarks, IsAnswer}
+use Rattle.ctwasm_top.specs.Headline.{DidFound, HasInferred, DidInfer, ByMarks, BadMarks, IsAnswer, IsReadAs}
 use Rattle.ctwasm_top.proofs.Profiles.{under_ok, spelled_under, valid_under, module_read_valid}
 use Rattle.ctwasm_top.proofs.There.{there, text_there}
 use Rattle.ctwasm_top.proofs.Going.{file_goes, text_goes, form_goes, fault_goes}
@@ -197,7 +207,22 @@ not_done_refused e = cc
 not_flow_refused : NoLabelling ≡ Refused → ⊥
 not_flow_refused e = cc
 
-module _ (m : Module Label) (plain : IsPlainModule m) (ct : m.ct ≡ false) (valid : IsValid m) (k : MarkList) (releases : AreReleases k.points) (taken took : Option (List ℕ)) where
+-- what is placed in the module under a profile is read again, where its sites aren't too many
+abbrev IsReadPlaced : Module Label → Type 0
+IsReadPlaced m = length (sites m) ≤ most_sites → (p : Points) → AreReleases p → (l : Tag → Label) → IsReadAs (canon (placed l m p)) (placed l m p)
+
+read_placed : (q : Profile) (bytes : List ℕ) (t : Module Label) → Spells bytes t → t.ct ≡ false → IsValid (under q t) → IsReadPlaced (under q t)
+read_placed q bytes t s ct valid few p r l =
+    let v : IsValid t = valid_under_all t.profile (under q t) ct valid in
+    let n : length (sites t) ≤ most_sites = subst (λ (x : List Site). length x ≤ most_sites) (sites_same q t) few in
+    let same = placed_same q t l p in
+    let keeps : KeepsLimits (placed l t p) = spelled_limits bytes t s ct v n l p r in (
+      placed l t p,
+      subst (λ (b : List ℕ). Spells b (placed l t p)) (sym (canon_same q t l p)) (formed_spelled (placed l t p) (placed_formed l t p v.formed) keeps),
+      same ∙ ap (λ (x : Profile). under x (placed l t p)) (ap (λ (x : Module Label). x.profile) (sym same)),
+    )
+
+module _ (m : Module Label) (plain : IsPlainModule m) (ct : m.ct ≡ false) (valid : IsValid m) (read : IsReadPlaced m) (k : MarkList) (releases : AreReleases k.points) (taken took : Option (List ℕ)) where
   none_first : {A : Type 0} (xs : List A) (x : A) → xs ≡ [] → slice_get xs 0 ≡ Some x → ⊥
   none_first xs x e f = none-some x (ap (λ l. slice_get l 0) (sym e) ∙ f)
 
@@ -213,7 +238,7 @@ module _ (m : Module Label) (plain : IsPlainModule m) (ct : m.ct ≡ false) (val
 
   labels_inferred : (r : Result (List Label) InferFault) → LabelsModule m k r → took ≡ grown taken (on_labels m k r).out → HasInferred m k (on_labels m k r).status taken took
   labels_inferred (Ok labels) h e = record {
-    labelled = λ d. (labels, h.1, e, erased_placed (at_tag (label_at labels)) m plain valid k.points releases ct);
+    labelled = λ d. (labels, h.1, e, read h.0.1 k.points releases (at_tag (label_at labels)), erased_placed (at_tag (label_at labels)) m plain valid k.points releases ct);
     flow = λ d. absurd (not_done_flow d);
     refused = λ d. absurd (not_done_refused d);
     fitting = λ few l fits. refl;
@@ -235,13 +260,13 @@ module _ (m : Module Label) (plain : IsPlainModule m) (ct : m.ct ≡ false) (val
   }
   labels_inferred (Err infer.NoMemory) h e = absurd (h.1 refl)
 
-did_infer : (found : Found) (m : Module Label) (text : List ℕ) → IsPlainModule m → m.ct ≡ false → IsValid m → IsFound m text found → (status : Status) (taken took : Option (List ℕ))
+did_infer : (found : Found) (m : Module Label) (text : List ℕ) → IsPlainModule m → m.ct ≡ false → IsValid m → IsReadPlaced m → IsFound m text found → (status : Status) (taken took : Option (List ℕ))
     → status ≡ (on_marks found.marks (λ k. on_labels m k found.labels)).status → took ≡ grown taken (on_marks found.marks (λ k. on_labels m k found.labels)).out → DidInfer m text status taken took
-did_infer found m text plain ct valid is_so status taken took s t = on found.marks refl is_so.read s t
+did_infer found m text plain ct valid again is_so status taken took s t = on found.marks refl is_so.read s t
   where
     on : (r : Result MarkList MarkFault) → found.marks ≡ r → ReadsMarks m text r → status ≡ (on_marks r (λ k. on_labels m k found.labels)).status → took ≡ grown taken (on_marks r (λ k. on_labels m k found.labels)).out → DidInfer m text status taken took
     on (Ok k) e read s t =
-        ByMarks k read (subst (λ (x : Status). HasInferred m k x taken took) (sym s) (labels_inferred m plain ct valid k (reading_releases m text k read.reading) taken took found.labels (is_so.labelled k e) t))
+        ByMarks k read (subst (λ (x : Status). HasInferred m k x taken took) (sym s) (labels_inferred m plain ct valid again k (reading_releases m text k read.reading) taken took found.labels (is_so.labelled k e) t))
     on (Err fault) e read s t = BadMarks fault read.0 read.1 s t
 
 answer_is : (words : List (List ℕ)) (files : Files) (reading : Result (List Move) ScriptFault) (found : Found) (o : Option Command) → command_of words ≡ o → answer words files reading found ≡ on_words files reading found o
@@ -258,5 +283,5 @@ words_infer words files profile file marks e h result after taken took whole did
     let m = under profile h.tree in
     let same : answer words files (Ok []) d.found ≡ on_marks d.found.marks (λ k. on_labels m k d.found.labels) =
     answer_is words files (Ok []) d.found (Some (Infer profile file marks)) e ∙ infer_given files d.found profile file marks h ∙ plain_inferred files d.found profile file marks m h.plain in
-    did_infer d.found m h.text (plain_under profile h.tree (module_plain h.bytes h.tree h.spelled h.plain)) h.plain h.valid (finds h) result taken took
+    did_infer d.found m h.text (plain_under profile h.tree (module_plain h.bytes h.tree h.spelled h.plain)) h.plain h.valid (read_placed profile h.bytes h.tree h.spelled h.plain h.valid) (finds h) result taken took
     (a.1 ∙ ap (λ (o : Outcome). o.status) same) (a.2 ∙ ap (λ (o : Outcome). grown taken o.out) same)

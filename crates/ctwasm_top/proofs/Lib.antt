@@ -1,6 +1,3 @@
-pub mod WordsRead
-pub mod WordsCut
-pub mod PartsNamed
 pub mod LaunchTold
 pub mod Settled
 pub mod Profiles
@@ -20,6 +17,5 @@ pub mod Counted
 pub mod Worked
 pub mod WorkFacts
 pub mod WorkDone
-pub mod WorkWords
 pub mod WorkRuns
 pub mod Assembled

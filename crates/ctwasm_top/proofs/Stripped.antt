@@ -31,9 +31,9 @@ use Rattle.ctw_text.specs.Denotes.{Fault}
 use Rattle.ctw_parse.specs.Assembled.{assembled}
 use Rattle.ctwasm_top.specs.Texts.{text_limit, text_line, on_assembled, text_answer}
 use Rattle.ctwasm_top.specs.Works.{alone, work_answer}
-use Rattle.ctwasm_top.proofs.WorkWords.{IsFew, words_few}
+use Rattle.ctw_words.proofs.WorkWords.{IsFew, words_few}
 use Rattle.ctwasm_top.proofs.WorkRuns.{executed, set_valid, set_within, vault_octets}
-use Rattle.ctwasm_top.specs.Words.{Command, Check, Canon, Assemble, Text, Infer, Strip, Link, Run, Once, Work, command_of}
+use Rattle.ctw_words.specs.Words.{Command, Check, Canon, Assemble, Text, Infer, Strip, Link, Run, Once, Work, command_of}
 use Rattle.ctw_ops.specs.Erasure.{erase_module}
 use Rattle.ctw_form.specs.Read.{module_at}
 use Rattle.ctw_write.specs.Canon.{canon}

@@ -26,7 +26,7 @@ use Rattle.ctw_link.proofs.LinkedFronts.{bare, bare_linked}
 use Rattle.ctw_launch.proofs.Within.{all_unmap, all_flat}
 use Rattle.ctw_semantics.specs.Modules.{instance_of}
 use Rattle.ctw_inputs.specs.Outcome.{Execution}
-use Rattle.ctwasm_top.specs.Words.{Command, Check, Canon, Assemble, Text, Infer, Strip, Link, Run, Once, Work, command_of, vault_in, vault_word}
+use Rattle.ctw_words.specs.Words.{Command, Check, Canon, Assemble, Text, Infer, Strip, Link, Run, Once, Work, command_of, vault_in, vault_word}
 use Rattle.ctwasm_top.specs.Inference.{Found, IsPlacedUntrusted}
 use Rattle.ctwasm_top.specs.Answer.{answer, released_in, releases, FindsMarks}
 use Rattle.ctwasm_top.specs.Headline.{AreOctets, OtherVault, SameOutcome, ExecutesUntrusted}

@@ -26,8 +26,8 @@ use Rattle.ctw_inputs.specs.Inputs.{NamedFile, module_limit, modules_limit, scri
 use Rattle.ctw_inputs.specs.Settling.{Reads}
 use Rattle.ctwasm_top.specs.Lines.{linked_line, told_lines}
 use Rattle.ctwasm_top.specs.Usage.{usage_text}
-use Rattle.ctwasm_top.specs.SessionWords.{OnceWords, RunWords, same_in_once, same_in_run}
-use Rattle.ctwasm_top.specs.Words.{Command, Check, Canon, Assemble, Text, Infer, Strip, Link, Run, Once, Work, command_of}
+use Rattle.ctw_words.specs.SessionWords.{OnceWords, RunWords, same_in_once, same_in_run}
+use Rattle.ctw_words.specs.Words.{Command, Check, Canon, Assemble, Text, Infer, Strip, Link, Run, Once, Work, command_of}
 use Rattle.ctwasm_top.specs.Inference.{Found, inferred, IsFound}
 use Rattle.ctwasm_top.specs.Marked.{HoldsMarked}
 use Rattle.ctwasm_top.specs.Launching.{on_launch}

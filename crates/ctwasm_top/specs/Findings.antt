@@ -14,7 +14,7 @@ use Rattle.ctw_inputs.specs.declared.said.Stop.{Stop}
 use Rattle.ctw_inputs.specs.declared.said.Stop.TheVariants as stop
 use Rattle.ctw_inputs.specs.Inputs.{on_text, read_valid}
 use Rattle.ctw_inputs.specs.Settling.{SaysAll}
-use Rattle.ctwasm_top.specs.Words.{Infer}
+use Rattle.ctw_words.specs.Words.{Infer}
 use Rattle.ctw_labels.specs.Points.{AreReleases}
 use Rattle.ctw_labels.specs.SitedModule.{sites}
 use Rattle.ctw_inputs.specs.Outcome.{Outcome}

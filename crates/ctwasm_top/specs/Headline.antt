@@ -19,8 +19,9 @@ use Rattle.ctw_inputs.specs.declared.said.Stop.TheVariants as stop
 use Rattle.ctw_inputs.specs.Saying.{Saying}
 use Rattle.ctw_inputs.specs.Outcome.{Execution, Outcome}
 use Rattle.ctw_ops.specs.declared.types.Label.{Label}
-use Rattle.ctw_ops.specs.Tree.{Module}
+use Rattle.ctw_ops.specs.Tree.{Module, under}
 use Rattle.ctw_ops.specs.Erasure.{erase_module}
+use Rattle.ctw_form.specs.Spelled.{Spells}
 use Rattle.ctw_script.specs.declared.moves.Move.{Move}
 use Rattle.ctw_script.specs.declared.script.ScriptFault.{ScriptFault}
 use Rattle.ctw_write.specs.Canon.{canon}
@@ -38,7 +39,7 @@ use Rattle.ctw_infer.specs.declared.fault.InferFault.TheVariants as infer
 use Rattle.ctw_infer.specs.Answers.{IsLeastFlow, IsRefused, FitsNone}
 use Rattle.ctw_witness.specs.Lines.{flow_text}
 use Rattle.ctw_lines.specs.Lines.{marks_line, infer_line}
-use Rattle.ctwasm_top.specs.Words.{Command, LoadsFiles, command_of}
+use Rattle.ctw_words.specs.Words.{Command, LoadsFiles, command_of}
 use Rattle.ctw_moves.specs.SoundStates.{HasBytes}
 use Rattle.ctwasm_top.specs.Inference.{Found, IsLeast, IsPlacedUntrusted, asked, placed_by}
 use Rattle.ctwasm_top.specs.Answer.{answer, FindsMarks}
@@ -144,12 +145,18 @@ pub record DidFound (words : List (List ℕ)) (reading : Result (List Move) Scri
   pub is_so : FindsMarks (command_of words) before found ⊎ WroteNothing status taken took
   pub did : DidTold status (answer words before reading found) before after taken took
 
+-- a reader takes these bytes for this module: they spell a module that is this one under its profile
+abbrev pub IsReadAs : List ℕ → Module Label → Type 0
+IsReadAs bytes m = (tree : Module Label) × Spells bytes tree × (m ≡ under m.profile tree)
+
 -- What inference of a plain module by the marks of a text did, where it came to an end: it wrote the placed module of the
--- least labelling exactly where one fits, whose erasure is the module, the lines of a least flow exactly where trust is
--- kept and none fits, and else the line of a refusal.
+-- least labelling exactly where one fits, as bytes that a reader takes for it, and its erasure is the module; it wrote the
+-- lines of a least flow exactly where trust is kept and none fits, and else the line of a refusal.
 pub record HasInferred (m : Module Label) (marks : MarkList) (status : Status) (taken took : Option (List ℕ)) : Type 0 where
   pub labelled : status ≡ Done → (labels : List Label) × IsLeast m marks labels
-      × (took ≡ grown taken (canon (placed_by m marks labels))) × (erase_module (placed_by m marks labels) ≡ m)
+      × (took ≡ grown taken (canon (placed_by m marks labels)))
+      × IsReadAs (canon (placed_by m marks labels)) (placed_by m marks labels)
+      × (erase_module (placed_by m marks labels) ≡ m)
   pub flow : status ≡ NoLabelling → IsKept m marks.points × FitsNone m marks.points (asked m marks)
       × ((w : Flow) × IsLeastFlow (links m marks.points) (musts m marks.points) (asked m marks) w
       × (took ≡ grown taken (flow_text (sites m) w)))

@@ -1,8 +1,4 @@
 pub mod Usage
-pub mod NamedFiles
-pub mod SessionWords
-pub mod Words
-pub mod Commands
 pub mod Lines
 pub mod Launching
 pub mod Marked

@@ -19,7 +19,7 @@ use Rattle.ctw_inputs.specs.Parts.{names, bytes_in}
 use Rattle.ctw_inputs.specs.Settling.{IsStop}
 use Rattle.ctwasm_top.specs.declared.running.Opened.{Opened}
 use Rattle.ctwasm_top.specs.Lines.{told_lines}
-use Rattle.ctwasm_top.specs.SessionWords.{OnceWords, RunWords, same_in_once, same_in_run}
+use Rattle.ctw_words.specs.SessionWords.{OnceWords, RunWords, same_in_once, same_in_run}
 use Rattle.ctwasm_top.specs.Answer.{unless_same, once_part, launched}
 
 -- a session stands for the state with which the answer goes on, or the command stops

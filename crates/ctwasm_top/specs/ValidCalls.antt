@@ -26,8 +26,8 @@ use Rattle.ctw_moves.specs.States.{State}
 use Rattle.ctw_moves.specs.LaunchedStates.{Ready, launch}
 use Rattle.ctw_inputs.specs.Inputs.{NamedFile, module_limit, modules_limit, script_limit, vault_limit}
 use Rattle.ctw_inputs.specs.Settling.{Reads}
-use Rattle.ctwasm_top.specs.SessionWords.{same_in_once, same_in_run}
-use Rattle.ctwasm_top.specs.Words.{Command, Check, Canon, Assemble, Text, Infer, Strip, Link, Run, Once, Work}
+use Rattle.ctw_words.specs.SessionWords.{same_in_once, same_in_run}
+use Rattle.ctw_words.specs.Words.{Command, Check, Canon, Assemble, Text, Infer, Strip, Link, Run, Once, Work}
 use Rattle.ctwasm_top.specs.Answer.{once_part}
 use Rattle.ctwasm_top.specs.Marked.{HoldsMarked}
 

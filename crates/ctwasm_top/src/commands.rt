@@ -9,7 +9,6 @@ ghost use Rattle.ctwasm_top.specs.Lines.{linked_line};
 ghost use Rattle.ctwasm_top.specs.Answer.{checked, spelled, printed, stripped, matched};
 
 use crate::lines::linked_line;
-use crate::words::PartWords;
 use ctw_inputs::{
     LoadedPart, MODULE_LIMIT, Said, Stop, link_parts, load_file, load_parts, read_module,
     read_valid,
@@ -18,6 +17,7 @@ use ctw_io::Shelf;
 use ctw_ops::Profile;
 use ctw_print::print;
 use ctw_strip::strip;
+use ctw_words::PartWords;
 use ctw_write::canon;
 use std::alloc::Global;
 

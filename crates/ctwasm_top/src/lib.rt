@@ -9,7 +9,6 @@ mod running;
 mod saying;
 mod sessions;
 mod texts;
-mod words;
 mod working;
 
 ghost use Rattle.std.specs.Prelude.{◌≡◌, ◌≢◌, [], List, Result, ℕ, map, string_bytes, Some, None, All};
@@ -28,7 +27,7 @@ ghost use Rattle.ctw_moves.specs.SeenStates.{Agree, seen_run};
 ghost use Rattle.ctw_inputs.specs.declared.said.Status.TheVariants.{Done, Refused, Usage};
 ghost use Rattle.ctw_inputs.specs.Outcome.{Execution, ends};
 ghost use Rattle.ctwasm_top.specs.Usage.{usage_text};
-ghost use Rattle.ctwasm_top.specs.Words.{Infer, command_of, vault_word};
+ghost use Rattle.ctw_words.specs.Words.{Infer, command_of, vault_word};
 ghost use Rattle.ctwasm_top.specs.Inference.{Found, IsPlacedUntrusted};
 ghost use Rattle.ctwasm_top.specs.Marked.{HoldsMarked};
 ghost use Rattle.ctwasm_top.specs.Answer.{answer, releases, ReadsScript, FindsMarks};
@@ -38,12 +37,12 @@ ghost use Rattle.ctwasm_top.specs.ValidCalls.{HoldsInputs, WritesModule};
 use commands::{canon_file, check_file, link_files, strip_file, text_file};
 pub use ctw_inputs::Status;
 use ctw_io::{Shelf, Sink};
+use ctw_words::{Command, command_of};
 use inferring::infer_file;
 use running::{once, run};
 use saying::{say, settle};
 use std::alloc::Global;
 use texts::assemble_file;
-use words::{Command, command_of};
 use working::work;
 
 const USAGE: &[u8] = b"usage: ctwasm check M

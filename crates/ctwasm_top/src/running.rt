@@ -16,12 +16,11 @@ ghost use Rattle.ctw_inputs.specs.Settling.{IsRefusal, Settles, HasReadCause, Re
 ghost use Rattle.ctwasm_top.specs.Answer.{once_part, call_of, once_moves, once_answer, run_answer, ReadsScript};
 ghost use Rattle.ctwasm_top.specs.Headline.{DidTold, HasCauses};
 ghost use Rattle.ctwasm_top.specs.Sessions.{ArePartsOf, OpensRun, run_files, run_opened, once_files, IsSaved, Writes};
-ghost use Rattle.ctwasm_top.specs.SessionWords.{same_in_run, same_in_once};
-ghost use Rattle.ctwasm_top.specs.Words.{Run as Runs, Once as Calls};
+ghost use Rattle.ctw_words.specs.SessionWords.{same_in_run, same_in_once};
+ghost use Rattle.ctw_words.specs.Words.{Run as Runs, Once as Calls};
 
 use crate::saying::settle;
 use crate::sessions::{open_session, play_script, play_two};
-use crate::words::{Once, Run};
 use ctw_inputs::{
     LoadedPart, PartFile, SCRIPT_LIMIT, Status, Stop, VAULT_LIMIT, load_file, load_parts,
     read_moves, refuse, text_of,
@@ -31,6 +30,7 @@ use ctw_lines::refusal_line;
 use ctw_ops::{Name, Profile};
 use ctw_script::{Arg, Args, Move, Moves, Slot64};
 use ctw_session::Session;
+use ctw_words::{Once, Run};
 use std::alloc::{AllocError, Global};
 
 /// The loaded files of `run`.

@@ -2,7 +2,6 @@
 ghost use Rattle.std.specs.Prelude.{◌≡◌, ◌≢◌, ◌<◌, ◌^◌, ◌++◌, length, Some, Err, IfOk, IfSome, OnOk};
 ghost use Rattle.ctw_io.specs.Files.{Files};
 ghost use Rattle.ctw_script.specs.Lines.{blank_before_each};
-ghost use Rattle.ctw_lines.specs.Lines.{what_word};
 ghost use Rattle.ctw_parse.specs.Told.{fault_of};
 ghost use Rattle.ctw_inputs.specs.declared.said.Stop.TheVariants.{ReadFault};
 ghost use Rattle.ctw_inputs.specs.Inputs.{load};
@@ -12,8 +11,7 @@ ghost use Rattle.ctwasm_top.specs.Texts.{text_limit, lex_word, between, text_wor
 use ctw_inputs::{Said, Stop, load_file, refuse, text_of};
 use ctw_io::Shelf;
 use ctw_lex::LexKind;
-use ctw_lines::{add_number_word, add_word};
-use ctw_ops::What;
+use ctw_lines::{add_number_word, add_word, what_word};
 use ctw_parse::{TextFault, assemble};
 use std::alloc::{AllocError, Global};
 
@@ -28,20 +26,6 @@ fn lex_word(kind: LexKind) -> &'static [u8]
         LexKind::OpenString => b"OpenString",
         LexKind::OpenComment => b"OpenComment",
         LexKind::BadEscape => b"BadEscape",
-    }
-}
-
-fn what_word(what: What) -> &'static [u8]
-    ensures { result.now ≡ what_word what }
-{
-    match what {
-        What::Bytes => b"Bytes",
-        What::Params => b"Params",
-        What::Results => b"Results",
-        What::Memories => b"Memories",
-        What::Tables => b"Tables",
-        What::Locals => b"Locals",
-        What::Nesting => b"Nesting",
     }
 }
 

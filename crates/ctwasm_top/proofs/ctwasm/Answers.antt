@@ -1,6 +1,6 @@
 use Rattle.std.proofs.Common.{map, string_bytes}
 use Rattle.ctw_moves.proofs.AlikeMoves.{plays_alike}
-use Rattle.ctwasm_top.specs.Words.{command_of}
+use Rattle.ctw_words.specs.Words.{command_of}
 use Rattle.ctwasm_top.proofs.Alike.{answer_alike}
 use Rattle.ctwasm_top.proofs.Stripped.{runs_stripped, none_released}
 use Rattle.ctwasm_top.proofs.Dispatched.{done_answer, done_found, refused_answer, refused_found}

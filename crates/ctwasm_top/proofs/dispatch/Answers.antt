@@ -1,9 +1,9 @@
 use Rattle.std.proofs.Common.{[], inl, Some, Ok, map, string_bytes, sym, ap, ◌∙◌}
-use Rattle.ctwasm_top.specs.declared.words.Command.{Command}
+use Rattle.ctw_words.specs.declared.words.Command.{Command}
 use Rattle.ctwasm_top.specs.Usage.{usage_text}
-use Rattle.ctwasm_top.specs.Commands.{command_in}
+use Rattle.ctw_words.specs.Commands.{command_in}
 use Rattle.ctwasm_top.proofs.Dispatched.{on_command, reads_command, command_reads, command_causes, nothing_found, says_command, says_inferred, did_work, work_causes, settled_causes, written_causes}
-use Rattle.ctwasm_top.proofs.WorkWords.{work_numbers}
+use Rattle.ctw_words.proofs.WorkWords.{work_numbers}
 use Rattle.ctwasm_top.proofs.dispatch.Goals as goal
 
 -- ---- wrong words

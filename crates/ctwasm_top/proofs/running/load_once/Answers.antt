@@ -2,7 +2,7 @@ use Rattle.std.proofs.Common.{◌≤◌, arith, [], ◌∷◌, option_map, refl,
 use Rattle.std.proofs.lemmas.Result.{err_from_is_err_and}
 use Rattle.ctw_inputs.specs.Inputs.{vault_limit}
 use Rattle.ctw_inputs.specs.Parts.{contents}
-use Rattle.ctwasm_top.specs.SessionWords.{OnceWords}
+use Rattle.ctw_words.specs.SessionWords.{OnceWords}
 use Rattle.ctwasm_top.specs.Answer.{once_part}
 use Rattle.ctwasm_top.specs.Sessions.{ArePartsOf}
 use Rattle.ctwasm_top.proofs.Ending.{once_stops_vault, once_goes, are_parts}

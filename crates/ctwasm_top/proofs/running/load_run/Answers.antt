@@ -3,7 +3,7 @@ use Rattle.std.proofs.lemmas.Result.{err_from_is_err_and}
 use Rattle.std.specs.FinMap.{get}
 use Rattle.ctw_inputs.specs.Inputs.{script_limit, vault_limit}
 use Rattle.ctw_inputs.specs.Parts.{part_named, contents}
-use Rattle.ctwasm_top.specs.SessionWords.{RunWords}
+use Rattle.ctw_words.specs.SessionWords.{RunWords}
 use Rattle.ctwasm_top.specs.Sessions.{ArePartsOf}
 use Rattle.ctwasm_top.proofs.Ending.{run_stops_script, run_stops_vault, run_stops_parts, run_goes, are_parts, found_within}
 use Rattle.ctwasm_top.proofs.running.load_run.Goals as goal

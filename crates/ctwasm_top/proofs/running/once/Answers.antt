@@ -4,7 +4,7 @@ use Rattle.ctw_script.specs.declared.moves.Move.{Move}
 use Rattle.ctw_link.specs.Sets.{set_of}
 use Rattle.ctw_moves.specs.Runs.{plays}
 use Rattle.ctw_inputs.specs.declared.said.Status.TheVariants.{NoMemory}
-use Rattle.ctwasm_top.specs.SessionWords.{OnceWords}
+use Rattle.ctw_words.specs.SessionWords.{OnceWords}
 use Rattle.ctwasm_top.specs.Sessions.{Told}
 use Rattle.ctwasm_top.specs.Answer.{ran, once_moves, once_answer}
 use Rattle.ctwasm_top.proofs.Ending.{behind_once, stopped_told, told_as, ended_early, once_is, stops_as, ran_saved, told_writes}

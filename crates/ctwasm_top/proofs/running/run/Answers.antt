@@ -4,7 +4,7 @@ use Rattle.ctw_moves.specs.Runs.{plays}
 use Rattle.ctw_inputs.specs.Settling.{Reads}
 use Rattle.ctw_inputs.specs.declared.said.Status.TheVariants.{Refused}
 use Rattle.ctw_inputs.specs.Outcome.{ends}
-use Rattle.ctwasm_top.specs.SessionWords.{RunWords}
+use Rattle.ctw_words.specs.SessionWords.{RunWords}
 use Rattle.ctwasm_top.specs.Answer.{ran, run_answer}
 use Rattle.ctwasm_top.proofs.Ending.{run_refusing, run_refused, refused_not_done, behind_run, stopped_told, told_as, run_is, script_reads, same_script, no_ok, stops_as, ran_saved, told_writes}
 use Rattle.ctwasm_top.proofs.running.run.Goals as goal

@@ -1,0 +1,4 @@
+pub mod WordsRead
+pub mod WordsCut
+pub mod PartsNamed
+pub mod WorkWords

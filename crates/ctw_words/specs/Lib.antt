@@ -1,0 +1,4 @@
+pub mod NamedFiles
+pub mod SessionWords
+pub mod Words
+pub mod Commands

@@ -1,6 +1,0 @@
-use Rattle.std.proofs.Common.{◌≡◌, map, drop, is_some, string_bytes}
-use Rattle.ctwasm_top.specs.SessionWords.{arguments_of}
-use Rattle.ctwasm_top.proofs.words.are_arguments.Given as goal
-
-abbrev pub invariant-words : goal.invariant-words
-invariant-words l = is_some (arguments_of (map string_bytes l.words)) ≡ is_some (arguments_of (map string_bytes (drop l.word-index l.words)))

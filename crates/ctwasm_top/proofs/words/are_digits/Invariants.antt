@@ -1,6 +1,0 @@
-use Rattle.std.proofs.Common.{◌≡◌, drop}
-use Rattle.std.specs.Str.{all_ascii_digits}
-use Rattle.ctwasm_top.proofs.words.are_digits.Given as goal
-
-abbrev pub invariant-bytes : goal.invariant-bytes
-invariant-bytes l = all_ascii_digits l.bytes ≡ all_ascii_digits (drop l.b-index l.bytes)
