@@ -2,13 +2,14 @@ ghost use Rattle.std.specs.Prelude.{◌<◌, length};
 ghost use Rattle.ctw_ops.specs.Valid.{IsValid};
 ghost use Rattle.ctw_module.specs.Trees.{view_module};
 
+use crate::cases::{agrees, bytes_in};
 use crate::validity::shown;
 use ctw_leb::put_u32;
 use ctw_modcheck::check;
 use ctw_module::Module;
 use ctw_ops::Profile;
 use ctw_read::read;
-use ctw_tests::{agrees, bytes_in, question};
+use ctw_tests::question;
 use ctw_valid::check_body;
 use std::alloc::{AllocError, Global};
 use std::process::Abort;

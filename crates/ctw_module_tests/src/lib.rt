@@ -5,6 +5,8 @@
 #[cfg(test)]
 mod bodies;
 #[cfg(test)]
+mod cases;
+#[cfg(test)]
 mod linked_sets;
 #[cfg(test)]
 mod module_views;

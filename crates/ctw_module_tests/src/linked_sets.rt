@@ -1,11 +1,11 @@
 ghost use Rattle.std.specs.Prelude.{◌<◌, length};
 ghost use Rattle.ctw_module_tests.specs.Small.{IsSmall};
 
+use crate::cases::bytes_in;
 use ctw_link::{LinkedSet, Part, link};
 use ctw_modcheck::check;
 use ctw_ops::Name;
 use ctw_read::read;
-use ctw_tests::bytes_in;
 use std::alloc::Global;
 use std::process::Abort;
 

@@ -1,9 +1,9 @@
 ghost use Rattle.std.specs.Prelude.{◌<◌, length};
 
+use crate::cases::bytes_in;
 use ctw_module::{ConstExpr, ExternKind, Module};
 use ctw_ops::{ExternTag, GlobalType, Label, Limits, MemType, Trust, ValType, Width};
 use ctw_read::read;
-use ctw_tests::bytes_in;
 use std::alloc::Global;
 use std::process::Abort;
 

@@ -1,7 +1,8 @@
 ghost use Rattle.std.specs.Prelude.{◌<◌, ◌^◌, length};
 
+use crate::cases::{agrees, bytes_in};
 use ctw_read::read;
-use ctw_tests::{agrees, bytes_in, question};
+use ctw_tests::question;
 use std::alloc::{AllocError, Global};
 use std::process::Abort;
 

@@ -1,7 +1,8 @@
+use crate::cases::{agrees, bytes_in};
 use ctw_modcheck::check;
 use ctw_ops::Profile;
 use ctw_read::read;
-use ctw_tests::{agrees, bytes_in, question};
+use ctw_tests::question;
 use std::alloc::{AllocError, Global};
 use std::process::Abort;
 

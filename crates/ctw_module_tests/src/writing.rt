@@ -1,5 +1,5 @@
+use crate::cases::bytes_in;
 use ctw_read::read;
-use ctw_tests::bytes_in;
 use ctw_write::{ModuleWriter, canon};
 use std::alloc::{AllocError, Global};
 

@@ -8,3 +8,4 @@ pub mod Fitted
 pub mod LastPasses
 pub mod Bodies
 pub mod NarrowTexts
+pub mod FewBytes

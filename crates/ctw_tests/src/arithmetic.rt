@@ -1,7 +1,8 @@
 ghost use Rattle.std.specs.Prelude.{◌↔◌, IsTrue};
 ghost use Rattle.ctw_ops.specs.Types.{FitsWidth};
 
-use crate::{agrees, question};
+use crate::cases::agrees;
+use crate::question;
 use ctw_num::{NumTrap, apply1, apply2};
 use ctw_ops::{Width, num_op, signature};
 use std::alloc::{AllocError, Global};

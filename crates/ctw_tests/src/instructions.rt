@@ -1,6 +1,7 @@
 ghost use Rattle.std.specs.Prelude.{◌<◌, ◌^◌, length};
 
-use crate::{agrees, bytes_in, question};
+use crate::cases::{agrees, bytes_in};
+use crate::question;
 use ctw_flat::{
     BlockBuilder, BlockMap, Body, CodeFault, CodeKind, Instr, Targets, build, is_float_opcode,
 };

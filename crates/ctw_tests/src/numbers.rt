@@ -1,6 +1,7 @@
 ghost use Rattle.std.specs.Prelude.{◌<◌, length};
 
-use crate::{agrees, answer, bytes_in, question};
+use crate::cases::{agrees, bytes_in};
+use crate::{answer, question};
 use ctw_leb::{Cursor, LebFault, put_s64, put_u32};
 use std::alloc::{AllocError, Global};
 use std::fmt::Display;

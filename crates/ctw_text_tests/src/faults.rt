@@ -2,7 +2,7 @@ ghost use Rattle.std.specs.Prelude.{◌<◌, ◌^◌, length};
 
 use crate::assembling::assembled;
 use ctw_parse::assemble;
-use ctw_tests::{agrees, question};
+use ctw_tests::{answer, question};
 use std::alloc::{AllocError, Global};
 use std::process::Abort;
 
@@ -97,7 +97,8 @@ fn fault_of(rt: &impl Abort, alloc: Global, text: &str) -> Result<String, AllocE
 #[test]
 fn the_first_fault_of_the_first_pass_is_told(rt: HostRuntime) {
     for row in FAULTS.lines() {
-        agrees(&rt, row, fault_of(&rt, rt.alloc(), question(row)));
+        let fault = fault_of(&rt, rt.alloc(), question(row)).expect(&rt, "memory");
+        assert_eq!(rt; fault.as_str(), answer(row), "{row}");
     }
 }
 
