@@ -5,8 +5,9 @@ ghost use Rattle.ctw_labels.specs.SitedModule.{sites as sites_of};
 
 use ctw_modcheck::check;
 use ctw_module::Module;
+use ctw_ops::Profile;
 use ctw_read::read;
-use ctw_sites::Sites;
+use ctw_sites::{Points, Sites};
 use ctw_tests::{bytes_of, question};
 use std::alloc::Global;
 use std::process::Abort;
@@ -31,16 +32,31 @@ pub fn row_bytes(rt: &impl Abort, alloc: Global, row: &str) -> Vec<u8> {
     module_bytes(rt, alloc, question(row))
 }
 
-/// The module that bytes spell, which is plain and valid.
-pub fn valid_module<'a>(rt: &impl Abort, alloc: Global, bytes: &'a [u8]) -> Module<'a>
+/// The module that bytes spell, which is plain and valid, under a profile.
+pub fn module_under<'a>(
+    rt: &impl Abort,
+    alloc: Global,
+    bytes: &'a [u8],
+    profile: Profile,
+) -> Module<'a>
     ensures plain { (view_module result).ct ≡ false }
     ensures valid { IsValid (view_module result) }
 {
     assert!(rt; bytes.len() < 10_000_000);
-    let m = read(alloc, bytes).expect(rt, "a module");
+    let m = read(alloc, bytes)
+        .expect(rt, "a module")
+        .with_profile(profile);
     assert!(rt; !m.is_ct());
     check(alloc, &m).expect(rt, "valid");
     m
+}
+
+/// The same under the profile in which divisions alone leak.
+pub fn valid_module<'a>(rt: &impl Abort, alloc: Global, bytes: &'a [u8]) -> Module<'a>
+    ensures plain { (view_module result).ct ≡ false }
+    ensures valid { IsValid (view_module result) }
+{
+    module_under(rt, alloc, bytes, Profile::Divide)
 }
 
 /// The sites of a module.
@@ -50,4 +66,21 @@ pub fn numbered(rt: &impl Abort, alloc: Global, m: &Module) -> Sites
     ensures { result ≡ sites_of (view_module m.now) }
 {
     Sites::of(alloc, m).expect(rt, "sites")
+}
+
+/// The points of trusted functions, and of opcodes in them that release what they push.
+pub fn points_of(
+    rt: &impl Abort,
+    alloc: Global,
+    trusted: &[u32],
+    releases: &[(u32, u32)],
+) -> Points {
+    let mut points = Points::new(alloc);
+    for f in trusted {
+        points.add_trust(*f).expect(rt, "memory");
+    }
+    for (f, at) in releases {
+        points.add_release(*f, *at).expect(rt, "memory");
+    }
+    points
 }

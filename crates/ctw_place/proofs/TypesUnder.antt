@@ -1,8 +1,8 @@
 -- The types of parameters under labels, one after another.
-use Rattle.std.proofs.Common.{◌≡◌, ◌<◌, ◌≤◌, ℕ, suc, ◌+◌, Bool, true, false, ◌&&◌, List, [], ◌∷◌, ◌++◌, length, take, map, slice_get, get_or, is_some, IsTrue, IfSome, Option, Some, None, refl, sym, ap, ◌∙◌, arith}
+use Rattle.std.proofs.Common.{◌≡◌, ◌<◌, ◌≤◌, ℕ, zero, suc, ◌+◌, Bool, true, false, ◌&&◌, List, [], ◌∷◌, ◌++◌, length, take, map, slice_get, get_or, is_some, IsTrue, IfSome, Option, Some, None, refl, sym, ap, ◌∙◌, arith, ltb}
 use Rattle.std.specs.Prelude.{option_map}
 use Rattle.std.specs.List.{list_all}
-use Rattle.std.proofs.lemmas.Bool.{false≢true}
+use Rattle.std.proofs.lemmas.Bool.{false≢true, ltb-true, ltb-false}
 use Rattle.std.proofs.lemmas.List.{take_all, length-map}
 use Rattle.std.proofs.lemmas.Option.{slice_get-map}
 use Rattle.ctw_ops.specs.declared.types.Label.{Label}
@@ -109,3 +109,60 @@ module _ (labels : List Label) where
 
       result : Option (ValueType Label)
       result = option_map (type_to (at_tag (label_at labels))) (result_from (first + length g.params) g.result)
+
+  -- ---- the sites of a type that is public
+
+  is_first : (a b : Bool) → (a && b) ≡ true → a ≡ true
+  is_first true b e = refl
+  is_first false b e = absurd (false≢true e)
+
+  is_second : (a b : Bool) → (a && b) ≡ true → b ≡ true
+  is_second true b e = e
+  is_second false b e = absurd (false≢true e)
+
+  closed_params : {A : Type 0} (first : ℕ) (ts : List (ValueType A)) → are_public (map (type_to (at_tag (label_at labels))) (params_from first ts)) ≡ true → (i : ℕ) → i < length ts → is_public (label_at labels (first + i)) ≡ true
+  closed_params first [] e i l = absurd (omega (arith, l))
+  closed_params first (t ∷ ts) e zero l =
+      let z : first + 0 ≡ first = omega arith in
+      ap (λ n. is_public (label_at labels n)) z ∙ is_first (is_public (label_at labels first)) (are_public (map (type_to (at_tag (label_at labels))) (params_from (first + 1) ts))) e
+  closed_params first (t ∷ ts) e (suc i) l =
+      let z : first + suc i ≡ first + 1 + i = omega arith in
+      ap (λ n. is_public (label_at labels n)) z
+      ∙ closed_params (first + 1) ts (is_second (is_public (label_at labels first)) (are_public (map (type_to (at_tag (label_at labels))) (params_from (first + 1) ts))) e) i (omega (arith, l))
+
+  closed_result : {A : Type 0} (site : ℕ) (t : Option (ValueType A)) → are_public (optional (option_map (type_to (at_tag (label_at labels))) (result_from site t))) ≡ true → 0 < length (optional t) → is_public (label_at labels site) ≡ true
+  closed_result site None e l = absurd (omega (arith, l))
+  closed_result site (Some t) e l = is_first (is_public (label_at labels site)) true e
+
+  pub closed_type : {A : Type 0} (trust : Trust) (first : ℕ) (g : FunctionType A) → is_all_public (function_type_to (at_tag (label_at labels)) (with_trust trust (type_from first g))) ≡ true
+      → (i : ℕ) → i < site_count g → is_public (label_at labels (first + i)) ≡ true
+  closed_type {A} trust first g e i l = by (ltb i (length g.params)) refl
+    where
+      params : List (ValueType Label)
+      params = map (type_to (at_tag (label_at labels))) (params_from first g.params)
+
+      result : Option (ValueType Label)
+      result = option_map (type_to (at_tag (label_at labels))) (result_from (first + length g.params) g.result)
+
+      both : (are_public params && are_public (optional result)) ≡ true
+      both = is_second (is_untrusted trust) (are_public params && are_public (optional result)) e
+
+      at_result : (t : Option (ValueType A)) → length g.params ≤ i → i < length g.params + length (optional t) → (i ≡ length g.params) × (0 < length (optional t))
+      at_result None a b = absurd (omega (arith, a, b))
+      at_result (Some t) a b = (omega (arith, a, b), omega arith)
+
+      by : (b : Bool) → ltb i (length g.params) ≡ b → is_public (label_at labels (first + i)) ≡ true
+      by true k = closed_params first g.params (is_first (are_public params) (are_public (optional result)) both) i (ltb-true i (length g.params) k)
+      by false k =
+          let r = at_result g.result (ltb-false i (length g.params) k) l in
+          ap (λ n. is_public (label_at labels (first + n))) r.0 ∙ closed_result (first + length g.params) g.result (is_second (are_public params) (are_public (optional result)) both) r.1
+
+  pub plain_type : {A : Type 0} (trust : Trust) (first : ℕ) (g : FunctionType A) (b : Bool) → is_untrusted trust ≡ true → (b ≡ true → (i : ℕ) → i < site_count g → is_public (label_at labels (first + i)) ≡ true)
+      → (b ≡ false → (i : ℕ) × (i < site_count g) × (is_public (label_at labels (first + i)) ≡ false))
+      → b ≡ is_all_public (function_type_to (at_tag (label_at labels)) (with_trust trust (type_from first g)))
+  plain_type trust first g true u p q = sym (open_type trust first g u (p refl))
+  plain_type trust first g false u p q = by (is_all_public (function_type_to (at_tag (label_at labels)) (with_trust trust (type_from first g)))) refl
+    where
+      by : (c : Bool) → is_all_public (function_type_to (at_tag (label_at labels)) (with_trust trust (type_from first g))) ≡ c → false ≡ c
+      by true k = let n = q refl in absurd (false≢true (sym n.2 ∙ closed_type trust first g k n.0 n.1))
+      by false k = refl

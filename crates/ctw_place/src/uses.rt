@@ -1,5 +1,5 @@
 //! How a type under labels is spelled as a variant's entry.
-ghost use Rattle.std.specs.Prelude.{◌≡◌, ◌<◌, ◌+◌, ◌^◌, ◌++◌, ◌&&◌, ℕ, true, map, length, option_map, IsTrue, IfSome, IfOk, OnOk};
+ghost use Rattle.std.specs.Prelude.{◌≡◌, ◌<◌, ◌+◌, ◌^◌, ◌++◌, ◌&&◌, ℕ, true, false, map, length, option_map, IsTrue, IfSome, IfOk, OnOk};
 ghost use Rattle.std.specs.List.{list_all};
 ghost use Rattle.ctw_ops.specs.Types.{type_byte, byte_type, byte_types, is_type_byte, value_type};
 ghost use Rattle.ctw_ops.specs.Typing.{optional};
@@ -202,7 +202,8 @@ pub fn spelled(
 /// Whether the labels of so many sites from a first one on are public.
 fn are_open(labels: &Labels, first: u32, count: u32) -> bool
     requires { first + count < 2 ^ 32 }
-    ensures { result ≡ true → (i : ℕ) → i < count → is_public (label_at labels.now (first + i)) ≡ true }
+    ensures yes { result ≡ true → (i : ℕ) → i < count → is_public (label_at labels.now (first + i)) ≡ true }
+    ensures no { result ≡ false → (i : ℕ) × (i < count) × (is_public (label_at labels.now (first + i)) ≡ false) }
 {
     'sites: for i in 0..count {
         if !is_open(labels.at(first + i)) {
@@ -216,7 +217,7 @@ fn are_open(labels: &Labels, first: u32, count: u32) -> bool
 /// public.
 pub fn is_plain(setting: &Setting, y: u32, first: u32, trust: Trust) -> bool
     requires { first + site_count (type_named (module_of setting.now) y) < 2 ^ 32 }
-    ensures { result ≡ true → is_all_public (use_at setting.now y first trust).type ≡ true }
+    ensures { result ≡ is_all_public (use_at setting.now y first trust).type }
 {
     is_none(trust) && are_open(&setting.labels, first, sites_of(setting.whole, y))
 }
