@@ -24,3 +24,6 @@ pub mod StepClauses
 pub mod TurnLaws
 pub mod Entering
 pub mod TurnClauses
+pub mod ShortReading
+pub mod ShortForms
+pub mod ShortLaws

@@ -9,3 +9,4 @@ pub mod Changes
 pub mod Stepping
 pub mod Machine
 pub mod Turning
+pub mod Short

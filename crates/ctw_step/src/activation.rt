@@ -23,11 +23,14 @@ ghost use Rattle.ctw_step.specs.SetInstances.{instances};
 ghost use Rattle.ctw_step.specs.Told.{KeepsAtEnd, Tells};
 ghost use Rattle.ctw_step.specs.Stepping.{CanStep, Standing};
 ghost use Rattle.ctw_step.specs.Machine.{StaysSound, SeenAs, ErasedAs};
+ghost use Rattle.ctw_step.specs.Turning.{CameFromAll};
+ghost use Rattle.ctw_script.specs.declared.event.Event.{Event};
 
 use crate::calls::enter_frame;
 use crate::one_step::step_running;
 use crate::running::{Running, Stepped};
 use crate::sets::callee_of;
+use crate::short::pass_short;
 use ctw_link::LinkedSet;
 use ctw_store::Store;
 use std::alloc::{AllocError, Global};
@@ -125,4 +128,15 @@ pub fn step(set: &LinkedSet, store: &mut Store, act: &mut Activation) -> Result<
     ensures made { KeepsMade store.old.made store.new.made }
 {
     step_running(set, store, &mut act.running)
+}
+
+/// Steps of short instructions that show nothing and stand next, at most so many; tells how many were taken.
+pub fn step_shortly(set: &LinkedSet, store: &Store, act: &mut Activation, n: u32) -> u32
+    requires { CanStep set.now store.now.storage act.old }
+    ensures few { result ≤ n }
+    ensures came { (before : List Event)
+        → CameFromAll set.now result store.now.storage act.old before store.now.storage act.new before }
+    ensures on { CanStep set.now store.now.storage act.new }
+{
+    pass_short(set, store, &mut act.running, n)
 }

@@ -16,6 +16,8 @@ mod placed;
 mod reduce;
 mod running;
 mod sets;
+mod short;
+mod short_control;
 mod turning;
 mod weight;
 mod words;

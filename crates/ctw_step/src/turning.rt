@@ -14,7 +14,7 @@ ghost use Rattle.ctw_step.specs.SetInstances.{instances};
 ghost use Rattle.ctw_step.specs.Stepping.{CanStep, Standing};
 ghost use Rattle.ctw_step.specs.Turning.{GoesOn, TurnTells, TurnSeenAs, TurnErasedAs};
 
-use crate::activation::{Activation, step};
+use crate::activation::{Activation, step, step_shortly};
 use crate::running::Stepped;
 use ctw_link::LinkedSet;
 use ctw_script::{Event, TrapCode};
@@ -92,6 +92,7 @@ fn turn_steps(
     }
     let mut steps = 0;
     'steps: while steps < n {
+        steps += step_shortly(set, store, act, n - 1 - steps);
         match step(set, store, act) {
             Ok(Stepped::Went { event }) => {
                 note(events, event);

@@ -59,8 +59,10 @@ pub fn second_small(act: &Running) -> u32
 #[inline(always)]
 pub fn set_top(act: &mut Running, number: u64, next: usize)
     requires { 0 < length act.old.operands.items }
-    ensures { (front : List ℕ) (x : ℕ) → act.old.operands.items ≡ front ++ x ∷ []
+    ensures set { (front : List ℕ) (x : ℕ) → act.old.operands.items ≡ front ++ x ∷ []
         → shown act.new ≡ with_operands (shown act.old) (front ++ number ∷ []) next }
+    ensures alone { shown act.new ≡ with_operands (shown act.old) act.new.operands.items next }
+    ensures as_many { length act.new.operands.items ≡ length act.old.operands.items }
 {
     let last = act.operands.len() - 1;
     act.operands[last] = number;
@@ -72,6 +74,7 @@ pub fn set_top(act: &mut Running, number: u64, next: usize)
 pub fn shrink(act: &mut Running, count: usize, next: usize)
     requires { count ≤ length act.old.operands.items }
     ensures fewer { length act.new.operands.items ≡ length act.old.operands.items - count }
+    ensures alone { shown act.new ≡ with_operands (shown act.old) act.new.operands.items next }
     ensures cut { (front more : List ℕ) → act.old.operands.items ≡ front ++ more → length more ≡ count
         → shown act.new ≡ with_operands (shown act.old) front next }
 {
@@ -92,6 +95,18 @@ fn local_place(act: &Running, index: u32) -> usize
 {
     let frame = act.frames[act.frames.len() - 1];
     frame.locals + index as usize
+}
+
+/// A local of the innermost frame.
+#[inline(always)]
+pub fn local(act: &Running, index: u32) -> u64
+    requires some { 0 < length act.now.frames.items }
+    requires there { (front : List Caller) (f : Caller) → act.now.frames.items ≡ front ++ f ∷ []
+        → f.locals + index < length act.now.locals.items }
+    ensures { (front : List Caller) (f : Caller) (n : ℕ) → act.now.frames.items ≡ front ++ f ∷ []
+        → slice_get act.now.locals.items (f.locals + index) ≡ Some n → result ≡ n }
+{
+    act.locals[local_place(act, index)]
 }
 
 /// Puts a local upon the operands. An error leaves all as it was.
@@ -176,6 +191,8 @@ pub fn write_local(act: &mut Running, index: u32)
     requires there { (front : List Caller) (f : Caller) → act.old.frames.items ≡ front ++ f ∷ []
         → f.locals + index < length act.old.locals.items }
     ensures kept { act.new.operands.items ≡ act.old.operands.items }
+    ensures alone { shown act.new ≡ with_locals (shown act.old) act.new.locals.items }
+    ensures as_many { length act.new.locals.items ≡ length act.old.locals.items }
     ensures written { (front : List Caller) (f : Caller) (below : List ℕ) (x : ℕ)
         → act.old.frames.items ≡ front ++ f ∷ [] → act.old.operands.items ≡ below ++ x ∷ []
         → shown act.new ≡ with_locals (shown act.old) (slice_set act.old.locals.items (f.locals + index) x) }

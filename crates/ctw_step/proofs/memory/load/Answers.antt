@@ -40,7 +40,7 @@ returns-in-Ok c = λ l align code codes fns fn h cd vs k m.
     load_done codes code (shown c.args.act.now) c.args.next fns fn c.args.store.now.storage h cd vs c.args.mem c.args.width l c.args.bytes c.args.signed align c.args.offset x (Steppeds.Went (Some (Events.Load c.args.mem (c.top_small.result + c.args.offset) c.args.bytes))) (shown c.set_top.new.act) (record {
       inside = λ g. (
         ap (λ n. Steppeds.Went (Some (Events.Load c.args.mem (n + c.args.offset) c.args.bytes))) t,
-        c.set_top.ensures front x.v.number x.are ∙ ap (λ n. with_operands (shown c.args.act.now) (front ++ n ∷ []) c.args.next)
+        c.set_top.ensures.set front x.v.number x.are ∙ ap (λ n. with_operands (shown c.args.act.now) (front ++ n ∷ []) c.args.next)
             (c.extended.ensures ∙ ap (λ n. if c.args.signed then extend_s (8 * c.args.bytes) (bit_width c.args.width) n else n) (o.1 ∙ ap (λ n. number_of_bytes (take c.args.bytes (drop (n + c.args.offset) x.m.bytes))) t)),
       );
       outside = λ g. absurd (omega (arith, o.0, t, g));

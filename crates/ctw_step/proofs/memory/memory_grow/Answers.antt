@@ -27,11 +27,11 @@ pub returns-clause-does : goal.returns-clause-does
 returns-clause-does c = λ code codes fns fn h cd vs k m.
     let x = grow_met codes code (shown c.args.act.now) c.args.next fns fn c.args.store.now.storage h cd vs c.args.mem k m in
     let front : List ℕ = under h ++ numbers x.below in
-    grow_done codes code (shown c.args.act.now) c.args.next fns fn c.args.store.now.storage h cd vs c.args.mem x c.top_small-pages.result c.in_ok-number.number (shown c.set_top.new.act) c.grown_by.new.store.storage (c.top_small-pages.ensures front x.v.number x.are) (c.in_ok-number.ensures.grew x.m x.found) (c.set_top.ensures front x.v.number x.are)
+    grow_done codes code (shown c.args.act.now) c.args.next fns fn c.args.store.now.storage h cd vs c.args.mem x c.top_small-pages.result c.in_ok-number.number (shown c.set_top.new.act) c.grown_by.new.store.storage (c.top_small-pages.ensures front x.v.number x.are) (c.in_ok-number.ensures.grew x.m x.found) (c.set_top.ensures.set front x.v.number x.are)
 
 pub returns-clause-settles : goal.returns-clause-settles
 returns-clause-settles c =
     let q = c.requires in let r = q.1 in let x = grow_met r.codes q.0 (shown c.args.act.now) c.args.next r.fns r.fn c.args.store.now.storage r.place r.code r.values c.args.mem r.knows r.meets in
     let front : List ℕ = under r.place ++ numbers x.below in
-    inr (fewer_words (shown c.args.act.now) (shown c.set_top.new.act) (front ++ c.in_ok-number.number ∷ []) c.args.next (c.set_top.ensures front x.v.number x.are)
+    inr (fewer_words (shown c.args.act.now) (shown c.set_top.new.act) (front ++ c.in_ok-number.number ∷ []) c.args.next (c.set_top.ensures.set front x.v.number x.are)
     (omega (arith, ap length x.are, length-append front (x.v.number ∷ []), length-append front (c.in_ok-number.number ∷ []))))

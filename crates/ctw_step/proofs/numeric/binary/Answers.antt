@@ -42,7 +42,7 @@ returns-in-Ok c = λ front x y r e v.
     let w : Some (Ok c.in-Ok.number) ≡ Some r = sym k ∙ ap₂ (value2 c.args.op) a b ∙ v in
     let same : Ok c.in-Ok.number ≡ r = cc in
     let s = c.shrink.ensures.cut (front ++ x ∷ []) (y ∷ []) f refl in
-    let t = c.set_top.ensures front x (ap (λ (c : Shown). c.operands) s) in
+    let t = c.set_top.ensures.set front x (ap (λ (c : Shown). c.operands) s) in
     subst (λ (n : Result ℕ NumTrap). Computed (shown c.args.act.now) front (shown_division (leaks c.args.op c.args.profile) x y) c.args.next n (Steppeds.Went c.division-event.result) (shown c.set_top.new.act)) same
     (ap Steppeds.Went (c.division-event.ensures ∙ ap₂ (shown_division (leaks c.args.op c.args.profile)) a b), t ∙ ap (λ (d : Shown). with_operands d (front ++ c.in-Ok.number ∷ []) c.args.next) s)
 

@@ -22,4 +22,4 @@ pub returns : goal.returns
 returns c = λ front x n e v.
     let q : Some c.apply1.result ≡ Some n = sym c.apply1.ensures.value ∙ ap (value1 c.args.op) (c.top-a.ensures front x e) ∙ v in
     let same : c.apply1.result ≡ n = cc in
-    c.set_top.ensures front x e ∙ ap (λ n. with_operands (shown c.args.act.now) (front ++ n ∷ []) c.args.next) same
+    c.set_top.ensures.set front x e ∙ ap (λ n. with_operands (shown c.args.act.now) (front ++ n ∷ []) c.args.next) same

@@ -18,7 +18,7 @@ use Rattle.ctw_step.proofs.Homes.{func_below}
 use Rattle.ctw_step.proofs.StepLaws.{first_func, reached, instr_at_spot, spot_at, func_at, step_is, meets_at, can_reduce, bytes_small, running_func, running_there, running_found}
 use Rattle.ctw_ops.specs.Limits.{most_weight}
 use Rattle.ctw_step.proofs.Weights.{weighs}
-use Rattle.ctw_step.proofs.one_step.step_running.Goals as goal
+use Rattle.ctw_step.proofs.one_step.step_any.Goals as goal
 
 pub current-func-requires : goal.current-func-requires
 current-func-requires c = running_there c.args.set.now c.args.store.now.storage (shown c.args.act.now) c.requires.shape c.requires.last c.requires.activation c.requires.standing

@@ -1,0 +1,97 @@
+use Rattle.std.proofs.Common.{◌+◌, ◌∷◌, ℕ, refl, sym, ap, ◌∙◌}
+use Rattle.ctw_ops.specs.declared.types.Label.TheVariants.{Public}
+use Rattle.ctw_ops.specs.declared.types.Width.TheVariants.{W32}
+use Rattle.ctw_flat.specs.declared.opcode.Indexed.TheVariants as indexed
+use Rattle.ctw_flat.specs.declared.instr.Instr.TheVariants as instr
+use Rattle.ctw_step.proofs.ShortForms.{two_bytes, operation}
+use Rattle.ctw_step.proofs.ShortReading.{indexed_reads, constant_reads, numeric_reads}
+use Rattle.ctw_step.proofs.short.pass_form.Goals as goal
+
+pub pass_get-requires : goal.pass_get-requires
+pass_get-requires c =
+    let b = c.requires.runs in
+    let e = c.in-Some.ensures in
+    b.2 (instr.LocalGet c.in-Some.index) (c.args.act.now.at + 2) (indexed_reads b.0 e.1 c.args.act.now.at indexed.LocalGet c.in-Some.index (two_bytes b.0 c.args.tail.now e.1 c.args.act.now.at c.args.byte 0x20 c.in-Some.index b.1 c.in-32.is e.2) e.0) refl
+
+pub returns-in-Some-clause-passed : goal.returns-in-Some-clause-passed
+returns-in-Some-clause-passed c = λ bytes q t.
+    let e = c.in-Some.ensures in
+    record {
+      instr = instr.LocalGet c.in-Some.index;
+      next = c.args.act.now.at + 2;
+      reads = indexed_reads bytes e.1 c.args.act.now.at indexed.LocalGet c.in-Some.index (two_bytes bytes c.args.tail.now e.1 c.args.act.now.at c.args.byte 0x20 c.in-Some.index q c.in-32.is e.2) e.0;
+      counted = refl;
+      passes = c.pass_get.ensures.passes t;
+    }
+
+pub pass_set-requires : goal.pass_set-requires
+pass_set-requires c =
+    let b = c.requires.runs in
+    let e = c.in-Some-short_index.ensures in
+    b.2 (instr.LocalSet c.in-Some-short_index.index) (c.args.act.now.at + 2) (indexed_reads b.0 e.1 c.args.act.now.at indexed.LocalSet c.in-Some-short_index.index (two_bytes b.0 c.args.tail.now e.1 c.args.act.now.at c.args.byte 0x21 c.in-Some-short_index.index b.1 c.in-33.is e.2) e.0) refl
+
+pub returns-in-Some-short_index-clause-passed : goal.returns-in-Some-short_index-clause-passed
+returns-in-Some-short_index-clause-passed c = λ bytes q t.
+    let e = c.in-Some-short_index.ensures in
+    record {
+      instr = instr.LocalSet c.in-Some-short_index.index;
+      next = c.args.act.now.at + 2;
+      reads = indexed_reads bytes e.1 c.args.act.now.at indexed.LocalSet c.in-Some-short_index.index (two_bytes bytes c.args.tail.now e.1 c.args.act.now.at c.args.byte 0x21 c.in-Some-short_index.index q c.in-33.is e.2) e.0;
+      counted = refl;
+      passes = c.pass_set.ensures;
+    }
+
+pub pass_tee-requires : goal.pass_tee-requires
+pass_tee-requires c =
+    let b = c.requires.runs in
+    let e = c.in-Some-short_index-2.ensures in
+    b.2 (instr.LocalTee c.in-Some-short_index-2.index) (c.args.act.now.at + 2) (indexed_reads b.0 e.1 c.args.act.now.at indexed.LocalTee c.in-Some-short_index-2.index (two_bytes b.0 c.args.tail.now e.1 c.args.act.now.at c.args.byte 0x22 c.in-Some-short_index-2.index b.1 c.in-34.is e.2) e.0) refl
+
+pub returns-in-Some-short_index-2-clause-passed : goal.returns-in-Some-short_index-2-clause-passed
+returns-in-Some-short_index-2-clause-passed c = λ bytes q t.
+    let e = c.in-Some-short_index-2.ensures in
+    record {
+      instr = instr.LocalTee c.in-Some-short_index-2.index;
+      next = c.args.act.now.at + 2;
+      reads = indexed_reads bytes e.1 c.args.act.now.at indexed.LocalTee c.in-Some-short_index-2.index (two_bytes bytes c.args.tail.now e.1 c.args.act.now.at c.args.byte 0x22 c.in-Some-short_index-2.index q c.in-34.is e.2) e.0;
+      counted = refl;
+      passes = c.pass_tee.ensures;
+    }
+
+pub pass_constant-requires : goal.pass_constant-requires
+pass_constant-requires c =
+    let b = c.requires.runs in
+    let e = c.in-Some-short_bits.ensures in
+    b.2 (instr.Const W32 Public c.in-Some-short_bits.bits) (c.args.act.now.at + 2)
+    (constant_reads b.0 e.1 c.args.act.now.at c.in-Some-short_bits.bits (two_bytes b.0 c.args.tail.now e.1 c.args.act.now.at c.args.byte 0x41 c.in-Some-short_bits.bits b.1 c.in-65.is e.2) e.0) refl
+
+pub returns-in-Some-short_bits-clause-passed : goal.returns-in-Some-short_bits-clause-passed
+returns-in-Some-short_bits-clause-passed c = λ bytes q t.
+    let e = c.in-Some-short_bits.ensures in
+    record {
+      instr = instr.Const W32 Public c.in-Some-short_bits.bits;
+      next = c.args.act.now.at + 2;
+      reads = constant_reads bytes e.1 c.args.act.now.at c.in-Some-short_bits.bits (two_bytes bytes c.args.tail.now e.1 c.args.act.now.at c.args.byte 0x41 c.in-Some-short_bits.bits q c.in-65.is e.2) e.0;
+      counted = refl;
+      passes = c.pass_constant.ensures.passes t;
+    }
+
+pub pass_numeric-requires : goal.pass_numeric-requires
+pass_numeric-requires c =
+    let b = c.requires.runs in
+    let o = operation c.args.byte c.in-Some-num_op.op (sym c.in-Some-num_op.is ∙ c.num_op.ensures) in
+    record {
+      runs = b.2 (instr.Numeric c.in-Some-num_op.op Public) (c.args.act.now.at + 1)
+          (numeric_reads b.0 c.args.tail.now c.args.act.now.at c.in-Some-num_op.op (b.1 ∙ ap (λ (n : ℕ). n ∷ c.args.tail.now) o.1) o.0) refl;
+    }
+
+pub returns-in-Some-num_op-clause-passed : goal.returns-in-Some-num_op-clause-passed
+returns-in-Some-num_op-clause-passed c = λ bytes q t.
+    let o = operation c.args.byte c.in-Some-num_op.op (sym c.in-Some-num_op.is ∙ c.num_op.ensures) in
+    record {
+      instr = instr.Numeric c.in-Some-num_op.op Public;
+      next = c.args.act.now.at + 1;
+      reads = numeric_reads bytes c.args.tail.now c.args.act.now.at c.in-Some-num_op.op (q ∙ ap (λ (n : ℕ). n ∷ c.args.tail.now) o.1) o.0;
+      counted = refl;
+      passes = c.pass_numeric.ensures.passes t;
+    }
