@@ -34,6 +34,8 @@ use Rattle.ctw_inputs.specs.Inputs.{NamedFile, at_most, module_limit, modules_li
 use Rattle.ctw_inputs.specs.Settling.{Reads}
 use Rattle.ctwasm_top.proofs.Profiles.{under_ok, spelled_under, valid_under, module_read_valid}
 use Rattle.ctw_words.specs.SessionWords.{OnceWords, RunWords, same_in_once, same_in_run}
+use Rattle.ctw_parse.proofs.FewBytes.{few_bytes_too}
+use Rattle.ctw_write.proofs.KeptModules.{module_limited}
 use Rattle.ctwasm_top.specs.Inference.{Found}
 use Rattle.ctw_words.specs.Words.{Command, Check, Canon, Assemble, Text, Infer, Strip, Link, Run, Once, Work, command_of}
 use Rattle.ctwasm_top.specs.Lines.{linked_line}
@@ -114,7 +116,7 @@ text_written profile name files e =
     let h = valid_done profile name files (λ m. text_of_module m) e in
     let out : text_of_module h.tree ≡ (on_file name module_limit (get files name) (printed profile name)).out = sym (ap (λ (a : Outcome). a.out) (valid_given profile name files (λ m. text_of_module m) h)) in
     subst (IsPrinted files name) out
-    (record { bytes = h.bytes; told = h.told; tree = h.tree; spelled = h.spelled; denotes = λ octets. file_read_back profile h.bytes h.tree octets h.spelled h.valid })
+    (record { bytes = h.bytes; told = h.told; tree = h.tree; spelled = h.spelled; denotes = λ octets. few_bytes_too h.tree (module_limited h.bytes h.tree h.spelled).plain_bytes (text_of_module h.tree) (file_read_back profile h.bytes h.tree octets h.spelled h.valid) })
 
 canon_done : (name : List ℕ) (files : Files) → (on_file name module_limit (get files name) (spelled name)).status ≡ Done → HoldsModule files name
 canon_done name files e =

@@ -15,7 +15,6 @@ use Rattle.ctw_labels.specs.SitedModule.{sites}
 use Rattle.ctw_labels.specs.Kept.{IsKept}
 use Rattle.ctw_sites.specs.Packed.{most_sites}
 use Rattle.ctw_marks.specs.Readings.{MarkList, HasReading}
-use Rattle.ctw_text.specs.Denotes.{assembled}
 use Rattle.ctw_parse.specs.Assembled.{assembled as text_module}
 use Rattle.ctw_write.specs.Canon.{canon}
 use Rattle.ctwasm_top.specs.Texts.{text_limit}
@@ -144,13 +143,14 @@ pub record IsAssembledText (files : Files) (name out : List ℕ) : Type 0 where
   pub denotes : text_module bytes ≡ Ok tree
   pub spelled : out ≡ canon tree
 
--- what is written for a file whose bytes spell a module: a text that denotes that module
+-- what is written for a file whose bytes spell a module: a text that denotes that module within the limits, so that it is
+-- assembled to the canonical bytes of that module
 pub record IsPrinted (files : Files) (name out : List ℕ) : Type 0 where
   pub bytes : List ℕ
   pub told : get files name ≡ Some bytes
   pub tree : Module Label
   pub spelled : Spells bytes tree
-  pub denotes : All IsOctet bytes → assembled out ≡ Ok tree
+  pub denotes : All IsOctet bytes → text_module out ≡ Ok tree
 
 -- What is written for a file whose bytes spell a module: no more bytes, which spell the erased module, if they aren't
 -- longer than a plain module's file may be.
