@@ -1,14 +1,17 @@
 -- The instructions of each function nest, where not too many blocks are open.
-use Rattle.std.proofs.Common.{◌≡◌, ℕ, suc, ◌<◌, Bool, true, false, cond, List, [], ◌∷◌, ◌++◌, Option, Some, length, refl, arith, length-append, map}
+use Rattle.std.proofs.Common.{◌≡◌, ℕ, suc, ◌<◌, ◌≤◌, subst, Bool, true, false, cond, List, [], ◌∷◌, ◌++◌, Option, Some, length, refl, arith, length-append, map}
 use Rattle.std.specs.Prelude.{◌&&◌, nat_le}
 use Rattle.std.proofs.lemmas.Bool.{lt-ltb, leb-false}
 use Rattle.ctw_ops.specs.declared.types.Label.{Label}
 use Rattle.ctw_ops.specs.ValueType.{ValueType}
 use Rattle.ctw_ops.specs.Code as ops
 use Rattle.ctw_ops.specs.Code.{Leaf, Code, Shape, OfBlock, OfLoop, OfIf, Plain, Opens, Closes, ByEnd, ByElse}
+use Rattle.ctw_ops.specs.Limits.{most_nesting}
 use Rattle.ctw_ops.specs.Segments.{nested}
+use Rattle.ctw_ops.proofs.Segments.{opcodes_nested}
+use Rattle.ctw_flat.specs.Spelled.{height}
 use Rattle.ctw_flat.specs.Bodies.{takes_else, own_body}
-use Rattle.ctw_flat.proofs.Bodies.{Allowed}
+use Rattle.ctw_flat.proofs.Bodies.{Allowed, body_limited}
 use Rattle.ctw_flat.proofs.Balance.{open_after, closed_body}
 use Rattle.ctw_text.specs.declared.fields.Raw.{Raw}
 use Rattle.ctw_text.specs.declared.fields.Raw.TheVariants.{Single as RSingle, Uses as RUses, Targets as RTargets, Indirect as RIndirect, Opens as ROpens, Else as RElse, End as REnd}
@@ -146,3 +149,9 @@ pub body_nested : (s : Scope) (is : List Item) → runs false [] [] is ≡ true 
 body_nested s is h e =
     let r = opcodes_nest s [] [] (unfolded [] is) (unfolded_balanced [] [] [] is refl h) e in
     closed_body (ops_of s [] (unfolded [] is)) r.0 r.1
+
+-- and no deeper than blocks may
+pub body_low : (s : Scope) (is : List Item) (c : Code Label) → runs false [] [] is ≡ true → nesting_excess 0 (ops_of s [] (unfolded [] is)) ≡ [] → nested (ops_of s [] (unfolded [] is)) ≡ Some c → height c ≤ most_nesting
+body_low s is c h e n =
+    let r = opcodes_nest s [] [] (unfolded [] is) (unfolded_balanced [] [] [] is refl h) e in
+    body_limited c (subst (λ (os : List (ops.Op Label)). Allowed own_body os) (opcodes_nested (ops_of s [] (unfolded [] is)) c n) r.0)

@@ -4,8 +4,15 @@ pub mod Joined
 pub mod Branches
 pub mod Nested
 pub mod Tokens
+pub mod EachField
 pub mod Fitted
 pub mod LastPasses
 pub mod Bodies
 pub mod NarrowTexts
+pub mod Bounded
+pub mod Places
+pub mod Sections
+pub mod PlainTexts
+pub mod PlainModules
+pub mod Kept
 pub mod FewBytes

@@ -20,11 +20,11 @@ use Rattle.ctw_parse.specs.WideCanon.{wide_entry_text, wide_code_text, wide_sect
 use Rattle.ctw_parse.proofs.Nested.{nests, first_true, second_true}
 use Rattle.ctw_parse.proofs.Bodies.{body_nested}
 
-nil_left : {A : Type 0} (xs ys : List A) → xs ++ ys ≡ [] → xs ≡ []
+pub nil_left : {A : Type 0} (xs ys : List A) → xs ++ ys ≡ [] → xs ≡ []
 nil_left [] ys e = refl
 nil_left (x ∷ xs) ys e = absurd cc
 
-nil_right : {A : Type 0} (xs ys : List A) → xs ++ ys ≡ [] → ys ≡ []
+pub nil_right : {A : Type 0} (xs ys : List A) → xs ++ ys ≡ [] → ys ≡ []
 nil_right [] ys e = e
 nil_right (x ∷ xs) ys e = absurd cc
 
@@ -40,7 +40,7 @@ only_first (a ∷ b ∷ l) e = absurd (omega (arith, ltb-false 1 (length (a ∷ 
 
 -- ---- types
 
-abbrev narrow_entry : WideEntry → TypeEntry Label
+abbrev pub narrow_entry : WideEntry → TypeEntry Label
 narrow_entry e = record { base = e.base; type = narrow_type e.type }
 
 entry_same : (e : WideEntry) → entry_excess e ≡ [] → wide_entry_text e ≡ type_entry_text (record { base = e.base; type = narrow_type e.type })
@@ -53,7 +53,7 @@ entry_same e h = go e.base
     go None = rw few refl
     go (Some base) = rw few refl
 
-entries_same : (es : List WideEntry) → flat_map entry_excess es ≡ [] → all_texts wide_entry_text es ≡ all_texts type_entry_text (map narrow_entry es)
+pub entries_same : (es : List WideEntry) → flat_map entry_excess es ≡ [] → all_texts wide_entry_text es ≡ all_texts type_entry_text (map narrow_entry es)
 entries_same [] h = refl
 entries_same (e ∷ es) h =
     ap (λ (l : List ℕ). l ++ all_texts wide_entry_text es) (entry_same e (nil_left (entry_excess e) (flat_map entry_excess es) h))
@@ -61,7 +61,7 @@ entries_same (e ∷ es) h =
 
 -- ---- sections
 
-mapped_texts : {A B : Type 0} (u : A → List ℕ) (w : B → List ℕ) (f : A → B) → ((a : A) → u a ≡ w (f a)) → (l : List A) → all_texts u l ≡ all_texts w (map f l)
+pub mapped_texts : {A B : Type 0} (u : A → List ℕ) (w : B → List ℕ) (f : A → B) → ((a : A) → u a ≡ w (f a)) → (l : List A) → all_texts u l ≡ all_texts w (map f l)
 mapped_texts u w f h [] = refl
 mapped_texts u w f h (a ∷ l) = ap (λ (t : List ℕ). t ++ all_texts u l) (h a) ∙ ap (λ (t : List ℕ). w (f a) ++ t) (mapped_texts u w f h l)
 
@@ -69,15 +69,17 @@ mapped_count : {A B : Type 0} (f : A → B) (l : List A) → length l ≡ length
 mapped_count f [] = refl
 mapped_count f (a ∷ l) = ap suc (mapped_count f l)
 
+-- behind their count
+pub mapped_vector : {A B : Type 0} (u : A → List ℕ) (w : B → List ℕ) (f : A → B) (l : List A) → all_texts u l ≡ all_texts w (map f l) → vector_text u l ≡ vector_text w (map f l)
+mapped_vector u w f l e = ap (λ (n : ℕ). u32_text n ++ all_texts u l) (mapped_count f l) ∙ ap (λ (t : List ℕ). u32_text (length (map f l)) ++ t) e
+
 mapped_items : {A B : Type 0} (id : ℕ) (u : A → List ℕ) (w : B → List ℕ) (f : A → B) (l : List A) → all_texts u l ≡ all_texts w (map f l) → items_text id u l ≡ items_text id w (map f l)
 mapped_items id u w f [] e = refl
-mapped_items id u w f (a ∷ l) e =
-    let whole : vector_text u (a ∷ l) ≡ vector_text w (map f (a ∷ l)) = ap (λ (n : ℕ). u32_text n ++ all_texts u (a ∷ l)) (mapped_count f (a ∷ l)) ∙ ap (λ (t : List ℕ). u32_text (length (map f (a ∷ l))) ++ t) e in
-    ap (λ (t : List ℕ). id ∷ (u32_text (length t) ++ t)) whole
+mapped_items id u w f (a ∷ l) e = ap (λ (t : List ℕ). id ∷ (u32_text (length t) ++ t)) (mapped_vector u w f (a ∷ l) e)
 
 -- ---- functions
 
-abbrev narrow_function : WideFunction → Function Label
+abbrev pub narrow_function : WideFunction → Function Label
 narrow_function f = record { type = f.type; locals = f.locals; body = body_of (nested f.code) }
 
 body_same : (f : WideFunction) (c : Code Label) → nested f.code ≡ Some c → all_texts op_text f.code ≡ body_text (body_of (nested f.code))
@@ -86,7 +88,7 @@ body_same f c e = ap (all_texts op_text) (opcodes_nested f.code c e) ∙ ap (λ 
 code_same : (f : WideFunction) (c : Code Label) → nested f.code ≡ Some c → wide_code_text f ≡ code_text (narrow_function f)
 code_same f c e = ap (λ (l : List ℕ). sized_text (vector_text group_text (groups_of f.locals) ++ l)) (body_same f c e)
 
-codes_same : (S : Space) (p : Field → Bool) (fs : List Field) → list_all nests fs ≡ true → (before : ℕ) → function_excess before (map (function_of S) (filter p fs)) ≡ [] → all_texts wide_code_text (map (function_of S) (filter p fs)) ≡ all_texts code_text (map narrow_function (map (function_of S) (filter p fs)))
+pub codes_same : (S : Space) (p : Field → Bool) (fs : List Field) → list_all nests fs ≡ true → (before : ℕ) → function_excess before (map (function_of S) (filter p fs)) ≡ [] → all_texts wide_code_text (map (function_of S) (filter p fs)) ≡ all_texts code_text (map narrow_function (map (function_of S) (filter p fs)))
 codes_same S p [] h before e = refl
 codes_same S p (f ∷ fs) h before e = go (codes_same S p fs (second_true _ _ h)) (p f) before e
   where

@@ -16,8 +16,10 @@ use Rattle.ctw_text.specs.Fields.{fields_of}
 use Rattle.ctw_text.specs.Names.{NameFault, Wide, named}
 use Rattle.ctw_text.specs.Limits.{Excess, over, excess_of, bounded, narrow}
 use Rattle.ctw_text.specs.Denotes.{Denotes, Fault, InLex, stop_fault, name_fault, in_limits}
+use Rattle.ctw_form.specs.Spelled.{Spells}
 use Rattle.ctw_write.specs.Canon.{canon}
 use Rattle.ctw_parse.specs.WideCanon.{wide_canon}
+use Rattle.ctw_parse.specs.Numbers.{HasNumbers}
 
 -- A reader of a file counts the bytes of a plain module straight behind the version, before it meets anything else that
 -- is too much. A CT module has no such limit: how long its file may be is a matter of who loads it.
@@ -58,6 +60,7 @@ pub record HasModule (ct : Bool) (fs : List Field) (bytes : List ℕ) : Type 0 w
   pub wide : Wide
   pub names : named ct fs ≡ Ok wide
   pub limits : all_excess wide ≡ []
+  pub numbers : HasNumbers wide
   pub text : bytes ≡ canon (narrow wide)
 
 -- These are the canonical bytes of the module that a text denotes.
@@ -69,3 +72,5 @@ pub record IsAssembly (text bytes : List ℕ) : Type 0 where
   pub denotes : IsAssembled (toks_of tokens) m
   pub computed : assembled text ≡ Ok m
   pub spelled : bytes ≡ canon m
+  -- a reader of files takes them, and has the module
+  pub read : Spells bytes m

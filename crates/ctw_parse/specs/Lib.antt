@@ -2,4 +2,5 @@ pub mod WideCanon
 pub mod Assembled
 pub mod Ends
 pub mod Written
+pub mod Numbers
 pub mod Told

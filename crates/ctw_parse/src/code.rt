@@ -6,6 +6,7 @@ ghost use Rattle.ctw_text.specs.Leaves.{shape_of};
 ghost use Rattle.ctw_leb.specs.Spelling.{u32_text};
 ghost use Rattle.ctw_flat.specs.Instructions.{op_of, IsExactly};
 ghost use Rattle.ctw_write.specs.Canon.{all_texts, vector_text, op_text, opener_of, groups_of, group_text};
+ghost use Rattle.ctw_write.specs.KeepsLimits.{Is32, IsLimitedLeaf, IsLimitedOp};
 ghost use Rattle.ctw_parse.specs.WideCanon.{wide_code_text};
 ghost use Rattle.ctw_parse.specs.Written.{IsWritten, IsWrittenLeaf};
 
@@ -22,6 +23,7 @@ use std::alloc::{AllocError, Global};
 /// An instruction with an index.
 fn indexed(op: Indexed, index: u32) -> Instr<'static>
     ensures same { op_of result ≡ Plain (leaf_using op index) }
+    ensures numbers { IsLimitedLeaf (leaf_using op index) }
     ensures exact { IsExactly result }
 {
     match op {
@@ -40,6 +42,7 @@ fn indexed(op: Indexed, index: u32) -> Instr<'static>
 fn single(leaf: Leaf) -> Instr<'static>
     requires { IsWrittenLeaf leaf }
     ensures same { op_of result ≡ Plain leaf }
+    ensures numbers { IsLimitedLeaf leaf }
     ensures exact { IsExactly result }
 {
     match leaf.kind {
@@ -93,7 +96,8 @@ fn single(leaf: Leaf) -> Instr<'static>
 
 /// Numbers one after another.
 pub(crate) fn put_numbers(out: &mut Vec<u8>, numbers: &[u32]) -> Result<(), AllocError>
-    ensures { OnOk result (out.new.items ≡ out.old.items ++ all_texts u32_text numbers.now) }
+    ensures written { OnOk result (out.new.items ≡ out.old.items ++ all_texts u32_text numbers.now) }
+    ensures numbers { All Is32 numbers.now }
 {
     'numbers: for number in numbers {
         put_u32(out, *number)?;
@@ -103,7 +107,8 @@ pub(crate) fn put_numbers(out: &mut Vec<u8>, numbers: &[u32]) -> Result<(), Allo
 
 /// `br_table` with its labels, the default last.
 fn put_branches(out: &mut Vec<u8>, labels: &[u32]) -> Result<(), AllocError>
-    ensures { OnOk result (out.new.items ≡ out.old.items ++ op_text (Plain (branches labels.now))) }
+    ensures written { OnOk result (out.new.items ≡ out.old.items ++ op_text (Plain (branches labels.now))) }
+    ensures numbers { All Is32 labels.now }
 {
     put_form(out, Label::Public, Form::BrTable)?;
     if labels.is_empty() {
@@ -128,7 +133,8 @@ fn opener_of(word: Word) -> Opener
 /// An instruction.
 fn put_op(out: &mut Vec<u8>, op: &Op) -> Result<(), AllocError>
     requires { IsWritten op.now }
-    ensures { OnOk result (out.new.items ≡ out.old.items ++ op_text op.now) }
+    ensures written { OnOk result (out.new.items ≡ out.old.items ++ op_text op.now) }
+    ensures numbers { OnOk result (IsLimitedOp op.now) }
 {
     match &op.kind {
         OpKind::Single(leaf) => put_instr(out, &single(*leaf)),
@@ -144,7 +150,8 @@ fn put_op(out: &mut Vec<u8>, op: &Op) -> Result<(), AllocError>
 /// Instructions one after another.
 fn put_ops(out: &mut Vec<u8>, ops: &[Op]) -> Result<(), AllocError>
     requires { All IsWritten ops.now }
-    ensures { OnOk result (out.new.items ≡ out.old.items ++ all_texts op_text ops.now) }
+    ensures written { OnOk result (out.new.items ≡ out.old.items ++ all_texts op_text ops.now) }
+    ensures numbers { OnOk result (All IsLimitedOp ops.now) }
 {
     'ops: for op in ops {
         put_op(out, op)?;
@@ -182,7 +189,8 @@ pub(crate) fn put_function(
     function: &WideFunction,
 ) -> Result<(), AllocError>
     requires { All IsWritten function.now.code }
-    ensures { OnOk result (out.new.items ≡ out.old.items ++ wide_code_text function.now) }
+    ensures written { OnOk result (out.new.items ≡ out.old.items ++ wide_code_text function.now) }
+    ensures numbers { OnOk result (All IsLimitedOp function.now.code) }
 {
     let mut entry = Vec::new(alloc);
     put_locals(alloc, &mut entry, function.locals.as_slice())?;

@@ -5,8 +5,10 @@ ghost use Rattle.ctw_ops.specs.Valid.{IsFitting};
 ghost use Rattle.ctw_leb.specs.Spelling.{u32_text};
 ghost use Rattle.ctw_form.specs.Shown.{constant_of as constant_in};
 ghost use Rattle.ctw_names.specs.Wides.{constant_of, extern_in};
-ghost use Rattle.ctw_write.specs.Canon.{all_texts, vector_text, sized_text, type_text, section_text, extern_text, import_text, export_text, constant_text, global_text, element_text, segment_text, custom_text};
+ghost use Rattle.ctw_write.specs.Canon.{all_texts, vector_text, sized_text, type_text, section_text, extern_text, import_text, export_text, constant_text, global_text, element_text, segment_text, custom_text, table_text, memory_text};
+ghost use Rattle.ctw_write.specs.KeepsLimits.{Is32, IsShort, AreSizes, IsLimitedExtern, IsLimitedConstant, IsLimitedElement, IsLimitedSegment};
 ghost use Rattle.ctw_parse.specs.WideCanon.{wide_signature_text, wide_entry_text};
+ghost use Rattle.ctw_parse.specs.Numbers.{IsNumberedEntry};
 
 use crate::code::put_numbers;
 use ctw_flat::byte_of_type;
@@ -16,7 +18,7 @@ use ctw_names::{
     Spelled, WideConstant, WideCustom, WideElement, WideEntry, WideExport, WideExtern, WideGlobal,
     WideImport, WideSegment,
 };
-use ctw_ops::ValType;
+use ctw_ops::{Limits, MemType, ValType};
 use ctw_write::text::{
     entry_code, kind_code, put_constant, put_global, put_memory, put_section, put_sized, put_table,
     put_variable, trust_code,
@@ -81,7 +83,8 @@ fn put_signature(out: &mut Vec<u8>, ty: &Spelled) -> Result<(), AllocError>
 
 /// An entry of the types, perhaps a variant of another.
 pub(crate) fn put_entry(out: &mut Vec<u8>, entry: &WideEntry) -> Result<(), AllocError>
-    ensures { OnOk result (out.new.items ≡ out.old.items ++ wide_entry_text entry.now) }
+    ensures written { OnOk result (out.new.items ≡ out.old.items ++ wide_entry_text entry.now) }
+    ensures numbers { OnOk result (IsNumberedEntry entry.now) }
 {
     match entry.base {
         None => out.push(entry_code(entry.ty.trust))?,
@@ -94,9 +97,26 @@ pub(crate) fn put_entry(out: &mut Vec<u8>, entry: &WideEntry) -> Result<(), Allo
     put_signature(out, &entry.ty)
 }
 
+/// The sizes of a table.
+pub(crate) fn put_table_type(out: &mut Vec<u8>, limits: Limits) -> Result<(), AllocError>
+    ensures written { OnOk result (out.new.items ≡ out.old.items ++ table_text limits) }
+    ensures numbers { AreSizes limits }
+{
+    put_table(out, limits)
+}
+
+/// The type of a memory.
+pub(crate) fn put_memory_type(out: &mut Vec<u8>, ty: MemType) -> Result<(), AllocError>
+    ensures written { OnOk result (out.new.items ≡ out.old.items ++ memory_text ty) }
+    ensures numbers { AreSizes ty.limits }
+{
+    put_memory(out, ty)
+}
+
 /// What an import asks for.
 fn put_extern(out: &mut Vec<u8>, kind: &WideExtern) -> Result<(), AllocError>
-    ensures { OnOk result (out.new.items ≡ out.old.items ++ extern_text (extern_in kind.now)) }
+    ensures written { OnOk result (out.new.items ≡ out.old.items ++ extern_text (extern_in kind.now)) }
+    ensures numbers { OnOk result (IsLimitedExtern (extern_in kind.now)) }
 {
     match kind {
         WideExtern::Function(index) => {
@@ -105,11 +125,11 @@ fn put_extern(out: &mut Vec<u8>, kind: &WideExtern) -> Result<(), AllocError>
         }
         WideExtern::Table(limits) => {
             out.push(0x01)?;
-            put_table(out, *limits)
+            put_table_type(out, *limits)
         }
         WideExtern::Memory(ty) => {
             out.push(0x02)?;
-            put_memory(out, *ty)
+            put_memory_type(out, *ty)
         }
         WideExtern::Global(ty) => {
             out.push(0x03)?;
@@ -120,7 +140,8 @@ fn put_extern(out: &mut Vec<u8>, kind: &WideExtern) -> Result<(), AllocError>
 
 /// An import.
 pub(crate) fn put_import(out: &mut Vec<u8>, import: &WideImport) -> Result<(), AllocError>
-    ensures { OnOk result (out.new.items ≡ out.old.items ++ import_text import.now) }
+    ensures written { OnOk result (out.new.items ≡ out.old.items ++ import_text import.now) }
+    ensures numbers { OnOk result (IsLimitedExtern import.now.kind) }
 {
     put_bytes(out, import.module_name.as_slice())?;
     put_bytes(out, import.name.as_slice())?;
@@ -129,7 +150,8 @@ pub(crate) fn put_import(out: &mut Vec<u8>, import: &WideImport) -> Result<(), A
 
 /// An export.
 pub(crate) fn put_export(out: &mut Vec<u8>, export: &WideExport) -> Result<(), AllocError>
-    ensures { OnOk result (out.new.items ≡ out.old.items ++ export_text export.now) }
+    ensures written { OnOk result (out.new.items ≡ out.old.items ++ export_text export.now) }
+    ensures numbers { OnOk result (Is32 export.now.index) }
 {
     put_bytes(out, export.name.as_slice())?;
     out.push(kind_code(export.kind))?;
@@ -138,7 +160,8 @@ pub(crate) fn put_export(out: &mut Vec<u8>, export: &WideExport) -> Result<(), A
 
 /// A constant expression as a reader has it.
 fn expression(constant: WideConstant) -> ConstExpr
-    ensures { constant_in result ≡ constant_of constant }
+    ensures same { constant_in result ≡ constant_of constant }
+    ensures numbers { IsLimitedConstant (constant_of constant) }
 {
     match constant {
         WideConstant::Number(value, bits) => ConstExpr::Const { value, bits },
@@ -149,7 +172,8 @@ fn expression(constant: WideConstant) -> ConstExpr
 /// A defined global.
 pub(crate) fn put_defined(out: &mut Vec<u8>, global: &WideGlobal) -> Result<(), AllocError>
     requires { IsFitting global.now.init }
-    ensures { OnOk result (out.new.items ≡ out.old.items ++ global_text global.now) }
+    ensures written { OnOk result (out.new.items ≡ out.old.items ++ global_text global.now) }
+    ensures numbers { OnOk result (IsLimitedConstant global.now.init) }
 {
     put_global(out, global.ty, expression(global.init))
 }
@@ -157,7 +181,8 @@ pub(crate) fn put_defined(out: &mut Vec<u8>, global: &WideGlobal) -> Result<(), 
 /// Functions that are put into a table.
 pub(crate) fn put_element(out: &mut Vec<u8>, element: &WideElement) -> Result<(), AllocError>
     requires { IsFitting element.now.offset }
-    ensures { OnOk result (out.new.items ≡ out.old.items ++ element_text element.now) }
+    ensures written { OnOk result (out.new.items ≡ out.old.items ++ element_text element.now) }
+    ensures numbers { OnOk result (IsLimitedElement element.now) }
 {
     put_u32(out, element.table)?;
     put_constant(out, expression(element.offset))?;
@@ -168,7 +193,8 @@ pub(crate) fn put_element(out: &mut Vec<u8>, element: &WideElement) -> Result<()
 /// Bytes that are put into a memory.
 pub(crate) fn put_segment(out: &mut Vec<u8>, segment: &WideSegment) -> Result<(), AllocError>
     requires { IsFitting segment.now.offset }
-    ensures { OnOk result (out.new.items ≡ out.old.items ++ segment_text segment.now) }
+    ensures written { OnOk result (out.new.items ≡ out.old.items ++ segment_text segment.now) }
+    ensures numbers { OnOk result (IsLimitedSegment segment.now) }
 {
     put_u32(out, segment.memory)?;
     put_constant(out, expression(segment.offset))?;
@@ -181,7 +207,8 @@ pub(crate) fn put_custom(
     out: &mut Vec<u8>,
     custom: &WideCustom,
 ) -> Result<(), AllocError>
-    ensures { OnOk result (out.new.items ≡ out.old.items ++ custom_text custom.now) }
+    ensures written { OnOk result (out.new.items ≡ out.old.items ++ custom_text custom.now) }
+    ensures size { OnOk result (IsShort (sized_text custom.now.name ++ custom.now.bytes)) }
 {
     let mut contents = Vec::new(alloc);
     put_bytes(&mut contents, custom.name.as_slice())?;

@@ -1,16 +1,18 @@
 //! Appending sections. Where memory runs out, some bytes may be there.
-ghost use Rattle.std.specs.Prelude.{◌≡◌, ◌++◌, ◌∷◌, [], OnOk, All};
+ghost use Rattle.std.specs.Prelude.{◌≡◌, ◌++◌, ◌∷◌, [], OnOk, All, IfSome};
 ghost use Rattle.ctw_ops.specs.Valid.{IsFitting};
 ghost use Rattle.ctw_leb.specs.Spelling.{u32_text};
 ghost use Rattle.ctw_text.specs.Limits.{first};
-ghost use Rattle.ctw_write.specs.Canon.{table_text, memory_text, import_text, export_text, global_text, element_text, segment_text, items_text, start_text, custom_text, customs_text};
+ghost use Rattle.ctw_write.specs.Canon.{table_text, memory_text, import_text, export_text, global_text, element_text, segment_text, items_text, start_text, custom_text, customs_text, sized_text};
+ghost use Rattle.ctw_write.specs.KeepsLimits.{Is32, IsShort, AreSizes, IsLimitedExtern, IsLimitedConstant, IsLimitedElement, IsLimitedSegment, IsLimitedOp};
+ghost use Rattle.ctw_parse.specs.Numbers.{IsNumberedEntry, AreNumbered, AreShortFrom};
 ghost use Rattle.ctw_parse.specs.WideCanon.{wide_entry_text, wide_code_text};
 ghost use Rattle.ctw_parse.specs.Written.{IsWritten};
 
 use crate::code::put_function;
 use crate::item::{
     put_contents, put_count, put_custom, put_defined, put_element, put_entry, put_export,
-    put_import, put_segment,
+    put_import, put_memory_type, put_segment, put_table_type,
 };
 use ctw_leb::put_u32;
 use ctw_names::{
@@ -18,7 +20,6 @@ use ctw_names::{
     WideSegment,
 };
 use ctw_ops::{Limits, MemType};
-use ctw_write::text::{put_memory, put_table};
 use std::alloc::{AllocError, Global};
 
 /// The section of types, if there are some.
@@ -27,7 +28,8 @@ pub(crate) fn put_types(
     out: &mut Vec<u8>,
     entries: &[WideEntry],
 ) -> Result<(), AllocError>
-    ensures { OnOk result (out.new.items ≡ out.old.items ++ items_text 1 wide_entry_text entries.now) }
+    ensures written { OnOk result (out.new.items ≡ out.old.items ++ items_text 1 wide_entry_text entries.now) }
+    ensures numbers { OnOk result (AreNumbered IsNumberedEntry wide_entry_text entries.now) }
 {
     if entries.is_empty() {
         return Ok(());
@@ -46,7 +48,8 @@ pub(crate) fn put_imports(
     out: &mut Vec<u8>,
     imports: &[WideImport],
 ) -> Result<(), AllocError>
-    ensures { OnOk result (out.new.items ≡ out.old.items ++ items_text 2 import_text imports.now) }
+    ensures written { OnOk result (out.new.items ≡ out.old.items ++ items_text 2 import_text imports.now) }
+    ensures numbers { OnOk result (AreNumbered (λ i. IsLimitedExtern i.kind) import_text imports.now) }
 {
     if imports.is_empty() {
         return Ok(());
@@ -65,7 +68,8 @@ pub(crate) fn put_uses(
     out: &mut Vec<u8>,
     functions: &[WideFunction],
 ) -> Result<(), AllocError>
-    ensures { OnOk result (out.new.items ≡ out.old.items ++ items_text 3 (λ f. u32_text f.type) functions.now) }
+    ensures written { OnOk result (out.new.items ≡ out.old.items ++ items_text 3 (λ f. u32_text f.type) functions.now) }
+    ensures numbers { OnOk result (AreNumbered (λ f. Is32 f.type) (λ f. u32_text f.type) functions.now) }
 {
     if functions.is_empty() {
         return Ok(());
@@ -84,7 +88,8 @@ pub(crate) fn put_tables(
     out: &mut Vec<u8>,
     tables: &[Limits],
 ) -> Result<(), AllocError>
-    ensures { OnOk result (out.new.items ≡ out.old.items ++ items_text 4 table_text tables.now) }
+    ensures written { OnOk result (out.new.items ≡ out.old.items ++ items_text 4 table_text tables.now) }
+    ensures numbers { OnOk result (AreNumbered AreSizes table_text tables.now) }
 {
     if tables.is_empty() {
         return Ok(());
@@ -92,7 +97,7 @@ pub(crate) fn put_tables(
     let mut contents = Vec::new(alloc);
     put_count(&mut contents, tables.len())?;
     'items: for table in tables {
-        put_table(&mut contents, *table)?;
+        put_table_type(&mut contents, *table)?;
     }
     put_contents(out, 4, &contents)
 }
@@ -103,7 +108,8 @@ pub(crate) fn put_memories(
     out: &mut Vec<u8>,
     memories: &[MemType],
 ) -> Result<(), AllocError>
-    ensures { OnOk result (out.new.items ≡ out.old.items ++ items_text 5 memory_text memories.now) }
+    ensures written { OnOk result (out.new.items ≡ out.old.items ++ items_text 5 memory_text memories.now) }
+    ensures numbers { OnOk result (AreNumbered (λ t. AreSizes t.limits) memory_text memories.now) }
 {
     if memories.is_empty() {
         return Ok(());
@@ -111,7 +117,7 @@ pub(crate) fn put_memories(
     let mut contents = Vec::new(alloc);
     put_count(&mut contents, memories.len())?;
     'items: for memory in memories {
-        put_memory(&mut contents, *memory)?;
+        put_memory_type(&mut contents, *memory)?;
     }
     put_contents(out, 5, &contents)
 }
@@ -123,7 +129,8 @@ pub(crate) fn put_globals(
     globals: &[WideGlobal],
 ) -> Result<(), AllocError>
     requires { All (λ g. IsFitting g.init) globals.now }
-    ensures { OnOk result (out.new.items ≡ out.old.items ++ items_text 6 global_text globals.now) }
+    ensures written { OnOk result (out.new.items ≡ out.old.items ++ items_text 6 global_text globals.now) }
+    ensures numbers { OnOk result (AreNumbered (λ g. IsLimitedConstant g.init) global_text globals.now) }
 {
     if globals.is_empty() {
         return Ok(());
@@ -142,7 +149,8 @@ pub(crate) fn put_exports(
     out: &mut Vec<u8>,
     exports: &[WideExport],
 ) -> Result<(), AllocError>
-    ensures { OnOk result (out.new.items ≡ out.old.items ++ items_text 7 export_text exports.now) }
+    ensures written { OnOk result (out.new.items ≡ out.old.items ++ items_text 7 export_text exports.now) }
+    ensures numbers { OnOk result (AreNumbered (λ e. Is32 e.index) export_text exports.now) }
 {
     if exports.is_empty() {
         return Ok(());
@@ -162,7 +170,8 @@ pub(crate) fn put_elements(
     elements: &[WideElement],
 ) -> Result<(), AllocError>
     requires { All (λ e. IsFitting e.offset) elements.now }
-    ensures { OnOk result (out.new.items ≡ out.old.items ++ items_text 9 element_text elements.now) }
+    ensures written { OnOk result (out.new.items ≡ out.old.items ++ items_text 9 element_text elements.now) }
+    ensures numbers { OnOk result (AreNumbered IsLimitedElement element_text elements.now) }
 {
     if elements.is_empty() {
         return Ok(());
@@ -182,7 +191,8 @@ pub(crate) fn put_codes(
     functions: &[WideFunction],
 ) -> Result<(), AllocError>
     requires { All (λ f. All IsWritten f.code) functions.now }
-    ensures { OnOk result (out.new.items ≡ out.old.items ++ items_text 10 wide_code_text functions.now) }
+    ensures written { OnOk result (out.new.items ≡ out.old.items ++ items_text 10 wide_code_text functions.now) }
+    ensures numbers { OnOk result (AreNumbered (λ f. All IsLimitedOp f.code) wide_code_text functions.now) }
 {
     if functions.is_empty() {
         return Ok(());
@@ -202,7 +212,8 @@ pub(crate) fn put_segments(
     segments: &[WideSegment],
 ) -> Result<(), AllocError>
     requires { All (λ s. IsFitting s.offset) segments.now }
-    ensures { OnOk result (out.new.items ≡ out.old.items ++ items_text 11 segment_text segments.now) }
+    ensures written { OnOk result (out.new.items ≡ out.old.items ++ items_text 11 segment_text segments.now) }
+    ensures numbers { OnOk result (AreNumbered IsLimitedSegment segment_text segments.now) }
 {
     if segments.is_empty() {
         return Ok(());
@@ -217,7 +228,8 @@ pub(crate) fn put_segments(
 
 /// The section of the start function, if there is one.
 pub(crate) fn put_start(alloc: Global, out: &mut Vec<u8>, start: &[u32]) -> Result<(), AllocError>
-    ensures { OnOk result (out.new.items ≡ out.old.items ++ start_text (first start.now)) }
+    ensures written { OnOk result (out.new.items ≡ out.old.items ++ start_text (first start.now)) }
+    ensures numbers { IfSome (first start.now) Is32 }
 {
     if start.is_empty() {
         return Ok(());
@@ -234,7 +246,8 @@ fn put_placed(
     custom: &WideCustom,
     place: u32,
 ) -> Result<(), AllocError>
-    ensures { OnOk result (out.new.items ≡ out.old.items ++ customs_text place (custom.now ∷ [])) }
+    ensures written { OnOk result (out.new.items ≡ out.old.items ++ customs_text place (custom.now ∷ [])) }
+    ensures size { OnOk result (custom.now.place ≡ place → IsShort (sized_text custom.now.name ++ custom.now.bytes)) }
 {
     if custom.place == place {
         put_custom(alloc, out, custom)
@@ -250,7 +263,8 @@ pub(crate) fn put_customs(
     customs: &[WideCustom],
     place: u32,
 ) -> Result<(), AllocError>
-    ensures { OnOk result (out.new.items ≡ out.old.items ++ customs_text place customs.now) }
+    ensures written { OnOk result (out.new.items ≡ out.old.items ++ customs_text place customs.now) }
+    ensures sizes { OnOk result (AreShortFrom place place customs.now) }
 {
     'items: for custom in customs {
         put_placed(alloc, out, custom, place)?;

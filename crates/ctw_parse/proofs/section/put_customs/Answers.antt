@@ -1,11 +1,11 @@
-use Rattle.std.proofs.Common.{◌<◌, length, sym, ap, ◌∙◌, arith, Some}
-use Rattle.std.proofs.lemmas.Option.{slice_get-get_or}
-use Rattle.ctw_ops.specs.Tree.{Custom}
-use Rattle.ctw_write.proofs.Listed.{customs_next}
+use Rattle.std.proofs.Common.{arith}
+use Rattle.ctw_parse.proofs.Sections.{item_at, customs_more, customs_all}
 use Rattle.ctw_parse.proofs.section.put_customs.Goals as goal
 
 pub items-preserved : goal.items-preserved
 items-preserved c =
-    let lt : c.items.custom-index < length c.args.customs.now = omega arith in
-    let there = slice_get-get_or c.args.customs.now c.items.custom-index c.custom-item.result lt ∙ ap (λ (x : Custom). Some x) (sym c.custom-item.is) in
-    customs_next c.args.customs.now c.args.place c.items.custom-index c.custom-item.result c.args.out.now.items c.items.out.items c.put_placed.new.out.items there c.in_ok-put_placed.ensures c.items.invariant
+    customs_more c.args.customs.now c.args.place c.items.custom-index c.custom-item.result c.args.out.now.items c.items.out.items c.put_placed.new.out.items (item_at c.args.customs.now c.items.custom-index c.custom-item.result (omega arith) c.custom-item.is)
+    c.in_ok-put_placed.ensures.written c.in_ok-put_placed.ensures.size c.items.invariant
+
+pub returns-clause-sizes : goal.returns-clause-sizes
+returns-clause-sizes c = customs_all c.args.customs.now c.args.place c.items.custom-index (omega arith) c.items.invariant.1

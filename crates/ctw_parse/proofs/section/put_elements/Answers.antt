@@ -1,13 +1,18 @@
-use Rattle.std.proofs.Common.{◌<◌, length, sym, ap, ◌∙◌, arith, Some}
-use Rattle.std.proofs.lemmas.Option.{slice_get-get_or}
-use Rattle.ctw_ops.specs.Tree.{Element}
-use Rattle.ctw_ops.specs.declared.types.Label.{Label}
+use Rattle.std.proofs.Common.{length, sym, ◌∙◌, arith}
+use Rattle.std.proofs.lemmas.Bool.{eqb-true}
+use Rattle.std.proofs.lemmas.Result.{on_ok_weaker}
 use Rattle.ctw_write.specs.Canon.{element_text}
-use Rattle.ctw_write.proofs.Listed.{listed_next}
+use Rattle.ctw_write.specs.KeepsLimits.{IsLimitedElement}
+use Rattle.ctw_parse.proofs.Sections.{item_at, section_next, section_end, section_none}
 use Rattle.ctw_parse.proofs.section.put_elements.Goals as goal
 
 pub items-preserved : goal.items-preserved
 items-preserved c =
-    let lt : c.items.element-index < length c.args.elements.now = omega arith in
-    let there = slice_get-get_or c.args.elements.now c.items.element-index c.element-item.result lt ∙ ap (λ (x : (Element Label)). Some x) (sym c.element-item.is) in
-    listed_next element_text c.args.elements.now c.items.element-index c.element-item.result _ c.items.contents.items c.put_element.new.out.items there c.in_ok-put_element.ensures c.items.invariant
+    section_next IsLimitedElement element_text c.args.elements.now c.items.element-index c.element-item.result _ c.items.contents.items c.put_element.new.out.items (item_at c.args.elements.now c.items.element-index c.element-item.result (omega arith) c.element-item.is) c.in_ok-put_element.ensures.written c.in_ok-put_element.ensures.numbers c.items.invariant
+
+pub returns-clause-numbers : goal.returns-clause-numbers
+returns-clause-numbers c =
+    on_ok_weaker c.put_contents.result (λ short. section_end IsLimitedElement element_text c.args.elements.now c.items.element-index _ _ c.items.contents.items c.deref.result.now (omega arith) c.new-contents.ensures.items c.in_ok-put_count.ensures c.items.invariant c.deref.ensures.value short) c.put_contents.ensures.small
+
+pub returns-then-is_empty-clause-numbers : goal.returns-then-is_empty-clause-numbers
+returns-then-is_empty-clause-numbers c = section_none IsLimitedElement element_text c.args.elements.now (eqb-true (length c.args.elements.now) 0 (sym c.is_empty.ensures ∙ c.if-is_empty.true))

@@ -1,13 +1,20 @@
-use Rattle.std.proofs.Common.{◌<◌, length, sym, ap, ◌∙◌, arith, Some}
-use Rattle.std.proofs.lemmas.Option.{slice_get-get_or}
-use Rattle.ctw_ops.specs.Tree.{Import}
+use Rattle.std.proofs.Common.{length, sym, ◌∙◌, arith}
+use Rattle.std.proofs.lemmas.Bool.{eqb-true}
+use Rattle.std.proofs.lemmas.Result.{on_ok_weaker}
 use Rattle.ctw_ops.specs.declared.types.Label.{Label}
+use Rattle.ctw_ops.specs.Tree.{Import}
 use Rattle.ctw_write.specs.Canon.{import_text}
-use Rattle.ctw_write.proofs.Listed.{listed_next}
+use Rattle.ctw_write.specs.KeepsLimits.{IsLimitedExtern}
+use Rattle.ctw_parse.proofs.Sections.{item_at, section_next, section_end, section_none}
 use Rattle.ctw_parse.proofs.section.put_imports.Goals as goal
 
 pub items-preserved : goal.items-preserved
 items-preserved c =
-    let lt : c.items.import-index < length c.args.imports.now = omega arith in
-    let there = slice_get-get_or c.args.imports.now c.items.import-index c.import-item.result lt ∙ ap (λ (x : (Import Label)). Some x) (sym c.import-item.is) in
-    listed_next import_text c.args.imports.now c.items.import-index c.import-item.result _ c.items.contents.items c.put_import.new.out.items there c.in_ok-put_import.ensures c.items.invariant
+    section_next (λ (i : Import Label). IsLimitedExtern i.kind) import_text c.args.imports.now c.items.import-index c.import-item.result _ c.items.contents.items c.put_import.new.out.items (item_at c.args.imports.now c.items.import-index c.import-item.result (omega arith) c.import-item.is) c.in_ok-put_import.ensures.written c.in_ok-put_import.ensures.numbers c.items.invariant
+
+pub returns-clause-numbers : goal.returns-clause-numbers
+returns-clause-numbers c =
+    on_ok_weaker c.put_contents.result (λ short. section_end (λ (i : Import Label). IsLimitedExtern i.kind) import_text c.args.imports.now c.items.import-index _ _ c.items.contents.items c.deref.result.now (omega arith) c.new-contents.ensures.items c.in_ok-put_count.ensures c.items.invariant c.deref.ensures.value short) c.put_contents.ensures.small
+
+pub returns-then-is_empty-clause-numbers : goal.returns-then-is_empty-clause-numbers
+returns-then-is_empty-clause-numbers c = section_none (λ (i : Import Label). IsLimitedExtern i.kind) import_text c.args.imports.now (eqb-true (length c.args.imports.now) 0 (sym c.is_empty.ensures ∙ c.if-is_empty.true))
