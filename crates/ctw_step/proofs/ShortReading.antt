@@ -1,10 +1,11 @@
 -- Short instructions in bytes.
-use Rattle.std.proofs.Common.{◌≡◌, ℕ, ◌+◌, ◌<◌, true, List, [], ◌∷◌, drop, None, Ok, refl, inl, arith}
+use Rattle.std.proofs.Common.{◌≡◌, ℕ, ◌+◌, ◌<◌, true, List, [], ◌∷◌, ◌++◌, drop, length, None, Ok, refl, sym, subst, append-nil, arith}
 use Rattle.ctw_ops.specs.declared.types.Label.TheVariants.{Public}
 use Rattle.ctw_ops.specs.declared.types.Width.TheVariants.{W32}
 use Rattle.ctw_ops.specs.Code as ops
 use Rattle.ctw_ops.specs.Code.{Plain}
 use Rattle.ctw_ops.specs.Numeric.{is_numeric}
+use Rattle.ctw_leb.specs.Numbers.{IsS32}
 use Rattle.ctw_flat.specs.declared.opcode.Bare.{Bare}
 use Rattle.ctw_flat.specs.declared.opcode.Indexed.{Indexed}
 use Rattle.ctw_flat.specs.declared.opcode.Opener.{Opener}
@@ -15,7 +16,6 @@ use Rattle.ctw_flat.specs.Spelled.{bare_op, indexed_leaf, shape_of}
 use Rattle.ctw_flat.specs.Places.{instr_in}
 use Rattle.ctw_flat.proofs.OpcodeBytes.{form_there}
 use Rattle.ctw_flat.proofs.Places.{spelled_instr}
-use Rattle.std.specs.Prelude.{pos}
 
 module _ (bytes tail : List ℕ) (at : ℕ) where
   -- an opcode with an index of one byte
@@ -24,11 +24,18 @@ module _ (bytes tail : List ℕ) (at : ℕ) where
       spelled_instr bytes at (indexed_opcode x ∷ n ∷ []) tail (Plain (indexed_leaf x n))
       (Direct (form.Indexed x), indexed_opcode x ∷ [], n ∷ [], (indexed_opcode x, refl, form_there (form.Indexed x) tt), (n, n ∷ [], [], (l, omega (arith, l), refl), (refl, refl), refl), refl) e
 
-  -- a constant of one byte that isn't negative
-  pub constant_reads : (n : ℕ) → drop at bytes ≡ 0x41 ∷ n ∷ tail → n < 64 → instr_in bytes at ≡ Ok (Plain (ops.Const W32 Public n), at + 2)
-  constant_reads n e l =
-      spelled_instr bytes at (0x41 ∷ n ∷ []) tail (Plain (ops.Const W32 Public n))
-      (Direct (form.Const W32), 0x41 ∷ [], n ∷ [], (0x41, refl, form_there (form.Const W32) tt), (n, n ∷ [], [], (pos n, inl (l, omega (arith, l), refl), refl), (refl, refl), refl), refl) e
+  -- a constant of 32 bits
+  pub constant_reads : (text : List ℕ) (n next : ℕ) → drop at bytes ≡ 0x41 ∷ (text ++ tail) → IsS32 text n → next ≡ at + 1 + length text → instr_in bytes at ≡ Ok (Plain (ops.Const W32 Public n), next)
+  constant_reads text n next e m l =
+      let q : at + length (0x41 ∷ text) ≡ next = omega (arith, l) in
+      subst (λ next. instr_in bytes at ≡ Ok (Plain (ops.Const W32 Public n), next)) q
+      (spelled_instr bytes at (0x41 ∷ text) tail (Plain (ops.Const W32 Public n))
+      (Direct (form.Const W32), 0x41 ∷ [], text, (0x41, refl, form_there (form.Const W32) tt), (n, text, [], m, (refl, refl), sym (append-nil text)), refl) e)
+
+  pub select_reads : drop at bytes ≡ 0x1B ∷ tail → instr_in bytes at ≡ Ok (Plain (ops.Select Public), at + 1)
+  select_reads e =
+      spelled_instr bytes at (0x1B ∷ []) tail (Plain (ops.Select Public))
+      (Direct form.Select, 0x1B ∷ [], [], (0x1B, refl, form_there form.Select tt), (refl, refl), refl) e
 
   pub numeric_reads : (op : ℕ) → drop at bytes ≡ op ∷ tail → is_numeric op ≡ true → instr_in bytes at ≡ Ok (Plain (ops.Numeric op Public), at + 1)
   numeric_reads op e l =

@@ -1,5 +1,5 @@
 //! Steps of short instructions, which stay in their function and show nothing: many at once.
-ghost use Rattle.std.specs.Prelude.{◌≡◌, ◌≤◌, ◌<◌, ◌+◌, ◌^◌, ◌∷◌, true, false, ℕ, List, Some, IfSome, drop, length};
+ghost use Rattle.std.specs.Prelude.{◌≡◌, ◌≤◌, ◌<◌, ◌+◌, ◌^◌, ◌∷◌, ◌++◌, true, false, ℕ, List, Some, IfSome, drop, length};
 ghost use Rattle.ctw_ops.specs.declared.types.Label.TheVariants.{Public};
 ghost use Rattle.ctw_ops.specs.declared.types.Width.TheVariants.{W32};
 ghost use Rattle.ctw_ops.specs.declared.numeric.NumSig.{NumSig};
@@ -7,6 +7,7 @@ ghost use Rattle.ctw_ops.specs.declared.numeric.Profile.{Profile as Profiles};
 ghost use Rattle.ctw_ops.specs.Numeric.{num_sig_of, leaks as leaks_under};
 ghost use Rattle.ctw_ops.specs.Limits.{most_weight};
 ghost use Rattle.ctw_script.specs.declared.event.Event.{Event as Events};
+ghost use Rattle.ctw_leb.specs.Numbers.{IsS32};
 ghost use Rattle.ctw_flat.specs.declared.instr.Instr.TheVariants as instr;
 ghost use Rattle.ctw_step.specs.Shown.{shown};
 ghost use Rattle.ctw_step.specs.Told.{RunsAlone, words};
@@ -16,7 +17,8 @@ ghost use Rattle.ctw_step.specs.Short.{CanPass, Passed, Passes};
 
 use crate::running::Running;
 use crate::sets::body_of;
-use crate::words::{current, go_to, local, push, second, set_top, shrink, top, write_local};
+use crate::words::{current, go_to, local, pick, push, second, set_top, shrink, top, write_local};
+use ctw_leb::Cursor;
 use ctw_link::LinkedSet;
 use ctw_num::{apply1, apply2};
 use ctw_ops::{NumOp, Profile, leaks, num_op, signature};
@@ -54,6 +56,24 @@ fn pass_tee(act: &mut Running, index: u32, next: usize)
 {
     write_local(act, index);
     go_to(act, next);
+}
+
+/// `drop`
+#[inline(always)]
+fn pass_drop(act: &mut Running, next: usize)
+    requires { RunsAlone (shown act.old) instr.Drop next }
+    ensures { Passes (shown act.old) instr.Drop next (shown act.new) }
+{
+    shrink(act, 1, next);
+}
+
+/// `select`
+#[inline(always)]
+fn pass_select(act: &mut Running, next: usize)
+    requires { RunsAlone (shown act.old) (instr.Select Public) next }
+    ensures { Passes (shown act.old) (instr.Select Public) next (shown act.new) }
+{
+    pick(act, next);
 }
 
 /// `i32.const`, where memory isn't wanting.
@@ -129,14 +149,16 @@ pub fn short_index(tail: &[u8]) -> Option<u32>
     }
 }
 
-/// The bits of a number of one byte that isn't negative, in front of bytes.
+/// The bits of a signed number of 32 bits in front of bytes, and how many bytes it has.
 #[inline(always)]
-fn short_bits(tail: &[u8]) -> Option<u64>
-    ensures { IfSome result (λ n. (n < 64) × (rest : List ℕ) × (tail.now ≡ n ∷ rest)) }
+fn number_in_front(tail: &[u8]) -> Option<(u64, usize)>
+    requires { length tail.now < 2 ^ 32 }
+    ensures { IfSome result (λ x. (text rest : List ℕ) × IsS32 text x.0 × (tail.now ≡ text ++ rest) × (x.1 ≡ length text)) }
 {
-    match tail {
-        [byte, ..] if *byte < 64 => Some(u64::from(*byte)),
-        _ => None,
+    let mut cursor = Cursor::new(tail, 0);
+    match cursor.read_s32() {
+        Ok(n) => Some((u64::from(n.cast_unsigned()), cursor.place() as usize)),
+        Err(_) => None,
     }
 }
 
@@ -144,6 +166,7 @@ fn short_bits(tail: &[u8]) -> Option<u64>
 #[inline(always)]
 fn pass_form(act: &mut Running, byte: u8, tail: &[u8]) -> bool
     requires small { act.old.at < 2 ^ 32 }
+    requires few { length tail.now < 2 ^ 32 }
     requires runs { (bytes : List ℕ) × (drop act.old.at bytes ≡ byte ∷ tail.now) × CanPass bytes (shown act.old) }
     ensures passed { (bytes : List ℕ) → drop act.old.at bytes ≡ byte ∷ tail.now → result ≡ true
         → Passed bytes (shown act.old) (shown act.new) }
@@ -151,6 +174,14 @@ fn pass_form(act: &mut Running, byte: u8, tail: &[u8]) -> bool
 {
     let at = act.at;
     match byte {
+        0x1A => {
+            pass_drop(act, at + 1);
+            true
+        }
+        0x1B => {
+            pass_select(act, at + 1);
+            true
+        }
         0x20 => match short_index(tail) {
             Some(index) => pass_get(act, index, at + 2),
             None => false,
@@ -169,8 +200,8 @@ fn pass_form(act: &mut Running, byte: u8, tail: &[u8]) -> bool
             }
             None => false,
         },
-        0x41 => match short_bits(tail) {
-            Some(bits) => pass_constant(act, bits, at + 2),
+        0x41 => match number_in_front(tail) {
+            Some((bits, size)) => pass_constant(act, bits, at + 1 + size),
             None => false,
         },
         _ => match num_op(byte) {

@@ -5,7 +5,9 @@ ghost use Rattle.ctw_flat.specs.Blocks.{ends_in};
 ghost use Rattle.ctw_step.specs.Shown.{shown};
 ghost use Rattle.ctw_step.specs.Short.{CanTake, Taken};
 
-use crate::control::{branch_always, branch_if, end_label, enter_block, enter_loop};
+use crate::control::{
+    branch_always, branch_if, end_arm, end_label, enter_block, enter_if, enter_loop, return_now,
+};
 use crate::running::{Running, Stepped};
 use crate::short::short_index;
 use ctw_flat::{BlockMap, Body};
@@ -47,6 +49,11 @@ fn take_form(
             Ok(told) => Some(told),
             Err(_) => None,
         },
+        0x04 if has_no_result(tail) => match enter_if(body, blocks, act, None, at + 2) {
+            Ok(told) => Some(told),
+            Err(_) => None,
+        },
+        0x05 => Some(end_arm(act, at + 1)),
         0x0B => Some(end_label(act, at + 1)),
         0x0C => match short_index(tail) {
             Some(depth) => Some(branch_always(act, depth, at + 2)),
@@ -56,6 +63,7 @@ fn take_form(
             Some(depth) => Some(branch_if(act, depth, at + 2)),
             None => None,
         },
+        0x0F => Some(return_now(act, at + 1)),
         _ => None,
     }
 }

@@ -175,8 +175,10 @@ fn chosen(act: &Running) -> u64
 #[inline(always)]
 pub fn pick(act: &mut Running, next: usize)
     requires { 2 < length act.old.operands.items }
-    ensures { (front : List ℕ) (a b n : ℕ) → act.old.operands.items ≡ front ++ a ∷ b ∷ n ∷ []
+    ensures picked { (front : List ℕ) (a b n : ℕ) → act.old.operands.items ≡ front ++ a ∷ b ∷ n ∷ []
         → shown act.new ≡ with_operands (shown act.old) (front ++ (if n == 0 then b else a) ∷ []) next }
+    ensures alone { shown act.new ≡ with_operands (shown act.old) act.new.operands.items next }
+    ensures fewer { length act.new.operands.items ≡ length act.old.operands.items - 2 }
 {
     let number = chosen(act);
     shrink(act, 2, next);

@@ -1,10 +1,11 @@
-use Rattle.std.proofs.Common.{◌+◌, ◌∷◌, ℕ, refl, sym, ap, ◌∙◌}
+use Rattle.std.proofs.Common.{◌+◌, ◌∷◌, ℕ, refl, sym, ap, ◌∙◌, ap₂, List}
 use Rattle.ctw_ops.specs.declared.types.Label.TheVariants.{Public}
 use Rattle.ctw_ops.specs.declared.types.Width.TheVariants.{W32}
+use Rattle.ctw_flat.specs.declared.opcode.Bare.TheVariants as bare
 use Rattle.ctw_flat.specs.declared.opcode.Indexed.TheVariants as indexed
 use Rattle.ctw_flat.specs.declared.instr.Instr.TheVariants as instr
 use Rattle.ctw_step.proofs.ShortForms.{two_bytes, operation}
-use Rattle.ctw_step.proofs.ShortReading.{indexed_reads, constant_reads, numeric_reads}
+use Rattle.ctw_step.proofs.ShortReading.{bare_reads, indexed_reads, constant_reads, select_reads, numeric_reads}
 use Rattle.ctw_step.proofs.short.pass_form.Goals as goal
 
 pub pass_get-requires : goal.pass_get-requires
@@ -61,17 +62,16 @@ returns-in-Some-short_index-2-clause-passed c = λ bytes q t.
 pub pass_constant-requires : goal.pass_constant-requires
 pass_constant-requires c =
     let b = c.requires.runs in
-    let e = c.in-Some-short_bits.ensures in
-    b.2 (instr.Const W32 Public c.in-Some-short_bits.bits) (c.args.act.now.at + 2)
-    (constant_reads b.0 e.1 c.args.act.now.at c.in-Some-short_bits.bits (two_bytes b.0 c.args.tail.now e.1 c.args.act.now.at c.args.byte 0x41 c.in-Some-short_bits.bits b.1 c.in-65.is e.2) e.0) refl
+    let e = c.in-Some-number_in_front.ensures in
+    b.2 (instr.Const W32 Public c.in-Some-number_in_front.bits) (c.args.act.now.at + 1 + c.in-Some-number_in_front.size) (constant_reads b.0 e.1 c.args.act.now.at e.0 c.in-Some-number_in_front.bits (c.args.act.now.at + 1 + c.in-Some-number_in_front.size) (b.1 ∙ ap₂ (λ (b : ℕ) (l : List ℕ). b ∷ l) c.in-65.is e.3) e.2 (ap (λ n. c.args.act.now.at + 1 + n) e.4)) refl
 
-pub returns-in-Some-short_bits-clause-passed : goal.returns-in-Some-short_bits-clause-passed
-returns-in-Some-short_bits-clause-passed c = λ bytes q t.
-    let e = c.in-Some-short_bits.ensures in
+pub returns-in-Some-number_in_front-clause-passed : goal.returns-in-Some-number_in_front-clause-passed
+returns-in-Some-number_in_front-clause-passed c = λ bytes q t.
+    let e = c.in-Some-number_in_front.ensures in
     record {
-      instr = instr.Const W32 Public c.in-Some-short_bits.bits;
-      next = c.args.act.now.at + 2;
-      reads = constant_reads bytes e.1 c.args.act.now.at c.in-Some-short_bits.bits (two_bytes bytes c.args.tail.now e.1 c.args.act.now.at c.args.byte 0x41 c.in-Some-short_bits.bits q c.in-65.is e.2) e.0;
+      instr = instr.Const W32 Public c.in-Some-number_in_front.bits;
+      next = c.args.act.now.at + 1 + c.in-Some-number_in_front.size;
+      reads = constant_reads bytes e.1 c.args.act.now.at e.0 c.in-Some-number_in_front.bits (c.args.act.now.at + 1 + c.in-Some-number_in_front.size) (q ∙ ap₂ (λ (b : ℕ) (l : List ℕ). b ∷ l) c.in-65.is e.3) e.2 (ap (λ n. c.args.act.now.at + 1 + n) e.4);
       counted = refl;
       passes = c.pass_constant.ensures.passes t;
     }
@@ -95,3 +95,31 @@ returns-in-Some-num_op-clause-passed c = λ bytes q t.
       counted = refl;
       passes = c.pass_numeric.ensures.passes t;
     }
+
+pub pass_drop-requires : goal.pass_drop-requires
+pass_drop-requires c =
+    let b = c.requires.runs in
+    b.2 instr.Drop (c.args.act.now.at + 1) (bare_reads b.0 c.args.tail.now c.args.act.now.at bare.Drop (b.1 ∙ ap (λ (n : ℕ). n ∷ c.args.tail.now) c.in-26.is)) refl
+
+pub returns-in-26-clause-passed : goal.returns-in-26-clause-passed
+returns-in-26-clause-passed c = λ bytes q t. record {
+  instr = instr.Drop;
+  next = c.args.act.now.at + 1;
+  reads = bare_reads bytes c.args.tail.now c.args.act.now.at bare.Drop (q ∙ ap (λ (n : ℕ). n ∷ c.args.tail.now) c.in-26.is);
+  counted = refl;
+  passes = c.pass_drop.ensures;
+}
+
+pub pass_select-requires : goal.pass_select-requires
+pass_select-requires c =
+    let b = c.requires.runs in
+    b.2 (instr.Select Public) (c.args.act.now.at + 1) (select_reads b.0 c.args.tail.now c.args.act.now.at (b.1 ∙ ap (λ (n : ℕ). n ∷ c.args.tail.now) c.in-27.is)) refl
+
+pub returns-in-27-clause-passed : goal.returns-in-27-clause-passed
+returns-in-27-clause-passed c = λ bytes q t. record {
+  instr = instr.Select Public;
+  next = c.args.act.now.at + 1;
+  reads = select_reads bytes c.args.tail.now c.args.act.now.at (q ∙ ap (λ (n : ℕ). n ∷ c.args.tail.now) c.in-27.is);
+  counted = refl;
+  passes = c.pass_select.ensures;
+}

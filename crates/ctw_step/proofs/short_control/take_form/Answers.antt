@@ -86,3 +86,47 @@ returns-in-Some-short_index-clause-taken c =
       counted = refl;
       does = c.branch_if.ensures c.args.body.now;
     }
+
+pub enter_if-requires-clause-runs : goal.enter_if-requires-clause-runs
+enter_if-requires-clause-runs c =
+    let e = c.if-has_no_result-3.ensures refl in
+    c.requires.runs (instr.If None) (c.args.act.now.at + 2) (opens_reads c.args.body.now e.0 c.args.act.now.at opener.If (two_bytes c.args.body.now c.args.tail.now e.0 c.args.act.now.at c.args.byte 0x04 0x40 c.requires.here c.in-4.is e.1)) refl
+
+pub returns-in-Ok-enter_if-clause-taken : goal.returns-in-Ok-enter_if-clause-taken
+returns-in-Ok-enter_if-clause-taken c =
+    let e = c.if-has_no_result-3.ensures refl in
+    record {
+      instr = instr.If None;
+      next = c.args.act.now.at + 2;
+      reads = opens_reads c.args.body.now e.0 c.args.act.now.at opener.If (two_bytes c.args.body.now c.args.tail.now e.0 c.args.act.now.at c.args.byte 0x04 0x40 c.requires.here c.in-4.is e.1);
+      counted = refl;
+      does = c.in-Ok-enter_if.ensures.does;
+    }
+
+pub end_arm-requires : goal.end_arm-requires
+end_arm-requires c =
+    let x = c.requires.runs instr.Else (c.args.act.now.at + 1) (bare_reads c.args.body.now c.args.tail.now c.args.act.now.at bare.Else (c.requires.here ∙ ap (λ (n : ℕ). n ∷ c.args.tail.now) c.in-5.is)) refl in
+    (c.args.body.now, x.0, x.1)
+
+pub returns-in-5-clause-taken : goal.returns-in-5-clause-taken
+returns-in-5-clause-taken c = record {
+  instr = instr.Else;
+  next = c.args.act.now.at + 1;
+  reads = bare_reads c.args.body.now c.args.tail.now c.args.act.now.at bare.Else (c.requires.here ∙ ap (λ (n : ℕ). n ∷ c.args.tail.now) c.in-5.is);
+  counted = refl;
+  does = c.end_arm.ensures c.args.body.now;
+}
+
+pub return_now-requires : goal.return_now-requires
+return_now-requires c =
+    let x = c.requires.runs instr.Return (c.args.act.now.at + 1) (bare_reads c.args.body.now c.args.tail.now c.args.act.now.at bare.Return (c.requires.here ∙ ap (λ (n : ℕ). n ∷ c.args.tail.now) c.in-15.is)) refl in
+    (c.args.body.now, x.0, x.1)
+
+pub returns-in-15-clause-taken : goal.returns-in-15-clause-taken
+returns-in-15-clause-taken c = record {
+  instr = instr.Return;
+  next = c.args.act.now.at + 1;
+  reads = bare_reads c.args.body.now c.args.tail.now c.args.act.now.at bare.Return (c.requires.here ∙ ap (λ (n : ℕ). n ∷ c.args.tail.now) c.in-15.is);
+  counted = refl;
+  does = c.return_now.ensures c.args.body.now;
+}
