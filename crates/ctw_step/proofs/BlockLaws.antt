@@ -63,13 +63,13 @@ module _ (codes : Codes) (bytes : List ℕ) (c : Shown) (next : ℕ) (fns : Func
       → (after : ℕ) × EndsBehind (codes h.func) blocks c.at after × CodeStands (codes h.func) after rest
   behind_alone blocks rest closer tail a =
       let m = at_closer (codes h.func) a.0 ByEnd (segment rest closer ∷ tail) a.2 in
-      (m.next, record { end = a.0; other = None; op = ops.Closes ByEnd; ends = a.1; inside = a.2.inside; reads = m.reads }, record { closer = closer; tail = tail; stands = m.after })
+      (m.next, record { end = a.0; other = None; ends = a.1; inside = a.2.inside; reads = m.reads }, record { closer = closer; tail = tail; stands = m.after })
 
   one_behind : (blocks : List Block) (a b : ℕ) → EndsBehind (codes h.func) blocks c.at a → EndsBehind (codes h.func) blocks c.at b → a ≡ b
   one_behind blocks a b x y =
       let p : (x.end, x.other) ≡ (y.end, y.other) = let e = x.ends in let f = y.ends in cc in
       let q : x.end ≡ y.end = ap (λ (p : ℕ × Option ℕ). p.0) p in
-      same_next (instr_in (codes h.func) y.end) x.op y.op a b (ap (instr_in (codes h.func)) (sym q) ∙ x.reads) y.reads
+      same_next (instr_in (codes h.func) y.end) (ops.Closes ByEnd) (ops.Closes ByEnd) a b (ap (instr_in (codes h.func)) (sym q) ∙ x.reads) y.reads
 
   pub block_ends : (t : Option (ValueType Label)) (blocks : List Block) → Here' (instr.Block t) → Ends blocks → (after : ℕ) × EndsBehind (codes h.func) blocks c.at after
   block_ends t blocks m ends =

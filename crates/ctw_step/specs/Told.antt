@@ -5,7 +5,7 @@ use Rattle.ctw_script.specs.declared.trap.TrapCode.TheVariants.{Exhausted}
 use Rattle.ctw_ops.specs.declared.types.Label.{Label}
 use Rattle.ctw_ops.specs.Types.{ValueType}
 use Rattle.ctw_ops.specs.Limits.{most_weight}
-use Rattle.ctw_ops.specs.Code.{Code, Op}
+use Rattle.ctw_ops.specs.Code.{ByEnd, Closes, Code, Op}
 use Rattle.ctw_flat.specs.declared.instr.Instr.{Instr}
 use Rattle.ctw_flat.specs.Instructions.{op_of}
 use Rattle.ctw_flat.specs.Places.{instr_in}
@@ -106,10 +106,9 @@ with_operands c operands next = record c { operands = operands; at = next }
 pub record EndsBehind (bytes : List ℕ) (blocks : List Block) (at : ℕ) (after : ℕ) : Type 0 where
   pub end : ℕ
   pub other : Option ℕ
-  pub op : Op Label
   pub ends : ends_in blocks at ≡ Some (end, other)
   pub inside : end ≤ length bytes
-  pub reads : instr_in bytes end ≡ Ok (op, after)
+  pub reads : instr_in bytes end ≡ Ok (Closes ByEnd, after)
 
 -- a place behind an instruction
 abbrev pub IsBehind : List ℕ → ℕ → ℕ → Type 0

@@ -30,7 +30,7 @@ fn behind(body: &Body, at: usize) -> usize
     }
 }
 
-/// The place behind the end of the block at a place.
+/// The place behind the end of the block at a place: an `end` has one byte.
 fn behind_end(body: &Body, blocks: &BlockMap, at: usize) -> usize
     requires { (after : ℕ) × EndsBehind body.now blocks.now at after }
     ensures { EndsBehind body.now blocks.now at result }
@@ -38,10 +38,9 @@ fn behind_end(body: &Body, blocks: &BlockMap, at: usize) -> usize
     let Some((end, _)) = blocks.ends(at) else {
         unreachable!();
     };
-    match body.instr_at(end) {
-        Ok((_, next)) => next,
-        Err(_) => unreachable!(),
-    }
+    // It has fewer than 2^32 bytes.
+    let _code = body.code();
+    end + 1
 }
 
 /// `block`
