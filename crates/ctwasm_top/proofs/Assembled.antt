@@ -1,5 +1,5 @@
 -- The command that assembles a text, and the texts for which its work is done.
-use Rattle.std.proofs.Common.{◌≡◌, ℕ, List, Result, Ok, Err, refl, sym, ap, ◌∙◌, subst}
+use Rattle.std.proofs.Common.{◌≡◌, ℕ, List, Result, Ok, Err, refl, ap, ◌∙◌}
 use Rattle.std.specs.FinMap.{get}
 use Rattle.ctw_io.specs.Files.{Files}
 use Rattle.ctw_ops.specs.declared.types.Label.{Label}
@@ -9,7 +9,6 @@ use Rattle.ctw_text.specs.Denotes.{Fault}
 use Rattle.ctw_parse.specs.Assembled.{assembled}
 use Rattle.ctw_inputs.specs.declared.said.Status.TheVariants.{Done, Refused}
 use Rattle.ctw_inputs.specs.Outcome.{Outcome, ends}
-use Rattle.ctw_inputs.specs.Inputs.{on_file}
 use Rattle.ctwasm_top.specs.Texts.{text_limit, on_assembled, text_answer, assemble_answer}
 use Rattle.ctwasm_top.specs.ValidCalls.{HoldsText, IsAssembledText}
 use Rattle.ctwasm_top.proofs.There.{there, text_there}

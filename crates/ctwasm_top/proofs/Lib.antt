@@ -18,4 +18,5 @@ pub mod Worked
 pub mod WorkFacts
 pub mod WorkDone
 pub mod WorkRuns
+pub mod ReadBack
 pub mod Assembled

@@ -1,5 +1,5 @@
 -- The command `assemble`: what is said of a text.
-use Rattle.std.specs.Prelude.{ℕ, List, [], ◌∷◌, Result, Ok, Err, decimal, codes}
+use Rattle.std.specs.Prelude.{◌≡◌, ℕ, List, [], ◌∷◌, Result, Ok, Err, decimal, codes}
 use Rattle.ctw_io.specs.Files.{Files}
 use Rattle.ctw_ops.specs.declared.types.Label.{Label}
 use Rattle.ctw_ops.specs.Tree.{Module}
@@ -7,6 +7,7 @@ use Rattle.ctw_lex.specs.declared.LexKind.{LexKind}
 use Rattle.ctw_lex.specs.declared.LexKind.TheVariants.{BadChar, OpenString, OpenComment, BadEscape}
 use Rattle.ctw_script.specs.Lines.{spaced}
 use Rattle.ctw_text.specs.Denotes.{Fault, InLex, AtUnexpected, AtUnknownName, AtDoubleName, AtNumberRange, AtFloats, InExcess}
+use Rattle.ctw_form.specs.Spelled.{Spells}
 use Rattle.ctw_parse.specs.Assembled.{assembled}
 use Rattle.ctw_write.specs.Canon.{canon}
 use Rattle.ctw_lines.specs.Lines.{what_word}
@@ -45,6 +46,12 @@ text_line fault = spaced (codes "refused" ∷ codes "text" ∷ text_words fault)
 abbrev pub on_assembled : Result (Module Label) Fault → Outcome
 on_assembled (Ok m) = ends Done (canon m)
 on_assembled (Err fault) = ends Refused (text_line fault)
+
+-- a text denotes a module, and a reader takes the bytes that it is assembled to, for that module
+pub record IsReadBack (text : List ℕ) : Type 0 where
+  pub m : Module Label
+  pub denotes : assembled text ≡ Ok m
+  pub read : Spells (canon m) m
 
 abbrev pub text_answer : List ℕ → List ℕ → Outcome
 text_answer file bytes = on_text file bytes (λ text. on_assembled (assembled text))

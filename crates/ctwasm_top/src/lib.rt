@@ -12,6 +12,7 @@ mod texts;
 mod working;
 
 ghost use Rattle.std.specs.Prelude.{◌≡◌, ◌≢◌, [], List, Result, ℕ, map, string_bytes, Some, None, All};
+ghost use Rattle.std.specs.FinMap.{get};
 ghost use Rattle.ctw_io.specs.Files.{Files};
 ghost use Rattle.ctw_ops.specs.declared.numeric.Profile.{Profile};
 ghost use Rattle.ctw_ops.specs.Tree.{under};
@@ -27,9 +28,10 @@ ghost use Rattle.ctw_moves.specs.SeenStates.{Agree, seen_run};
 ghost use Rattle.ctw_inputs.specs.declared.said.Status.TheVariants.{Done, Refused, Usage};
 ghost use Rattle.ctw_inputs.specs.Outcome.{Execution, ends};
 ghost use Rattle.ctwasm_top.specs.Usage.{usage_text};
-ghost use Rattle.ctw_words.specs.Words.{Infer, command_of, vault_word};
+ghost use Rattle.ctw_words.specs.Words.{Assemble, Infer, command_of, vault_word};
 ghost use Rattle.ctwasm_top.specs.Inference.{Found, IsPlacedUntrusted};
 ghost use Rattle.ctwasm_top.specs.Marked.{HoldsMarked};
+ghost use Rattle.ctwasm_top.specs.Texts.{IsReadBack};
 ghost use Rattle.ctwasm_top.specs.Answer.{answer, releases, ReadsScript, FindsMarks};
 ghost use Rattle.ctwasm_top.specs.Headline.{Did, DidFound, DidInfer, HasCauses, IsAnswer, AreOctets, OtherVault, SameOutcome, ExecutesUntrusted, RunsStripped};
 ghost use Rattle.ctwasm_top.specs.ValidCalls.{HoldsInputs, WritesModule};
@@ -74,6 +76,9 @@ fn dispatch<F: Shelf, K: Sink>(
         → (reading : Result (List Move) ScriptFault) × ReadsScript (command_of (map string_bytes words.now)) files reading }
     ensures causes { HasCauses (command_of (map string_bytes words.now)) result (F.faults shelf.old) (F.faults shelf.new)
         (K.faults out.old) (K.faults out.new) (K.taken out.old) (K.taken out.new) }
+    ensures back { (files : Files) (file text : List ℕ) → F.files shelf.old ≡ Some files
+        → command_of (map string_bytes words.now) ≡ Some (Assemble file) → result ≡ Done → get files file ≡ Some text
+        → IsReadBack text }
     ensures no_form { (files : Files) → command_of (map string_bytes words.now) ≡ None
         → Did result (ends Usage usage_text) files files (K.taken out.old) (K.taken out.new) }
 {
@@ -139,6 +144,11 @@ pub fn ctwasm<F: Shelf, K: Sink>(
         → (answer (map string_bytes words.now) files reading found).status ≡ Done
         → WritesModule files (command_of (map string_bytes words.now))
         (answer (map string_bytes words.now) files reading found).out }
+
+    // A reader takes the bytes that `assemble` writes for a text, for the module that the text denotes.
+    ensures back { (files : Files) (file text : List ℕ) → F.files shelf.old ≡ Some files
+        → command_of (map string_bytes words.now) ≡ Some (Assemble file) → result ≡ Done → get files file ≡ Some text
+        → IsReadBack text }
 
     // `infer` writes the placed module of the least labelling exactly where one fits the marks, the lines of a least flow
     // exactly where trust is kept and none fits, and else a refusal. Erasing the placed module gives the file's.

@@ -1,12 +1,15 @@
 //! The command that assembles a text.
-ghost use Rattle.std.specs.Prelude.{◌≡◌, ◌≢◌, ◌<◌, ◌^◌, ◌++◌, length, Some, Err, IfOk, IfSome, OnOk};
+ghost use Rattle.std.specs.Prelude.{◌≡◌, ◌≢◌, ◌<◌, ◌^◌, ◌++◌, ℕ, List, length, Some, Err, IfOk, IfSome, OnOk};
+ghost use Rattle.std.specs.FinMap.{get};
 ghost use Rattle.ctw_io.specs.Files.{Files};
 ghost use Rattle.ctw_script.specs.Lines.{blank_before_each};
 ghost use Rattle.ctw_parse.specs.Told.{fault_of};
+ghost use Rattle.ctw_inputs.specs.declared.said.Status.TheVariants.{Done};
 ghost use Rattle.ctw_inputs.specs.declared.said.Stop.TheVariants.{ReadFault};
 ghost use Rattle.ctw_inputs.specs.Inputs.{load};
 ghost use Rattle.ctw_inputs.specs.Settling.{SaysSo, HasReadCause};
-ghost use Rattle.ctwasm_top.specs.Texts.{text_limit, lex_word, between, text_words, text_line, text_answer};
+ghost use Rattle.ctwasm_top.specs.Texts.{IsReadBack, text_limit, lex_word, between, text_words, text_line, text_answer};
+ghost use Rattle.ctwasm_top.specs.Findings.{OnSaid};
 
 use ctw_inputs::{Said, Stop, load_file, refuse, text_of};
 use ctw_io::Shelf;
@@ -77,6 +80,7 @@ fn text_line(alloc: Global, fault: &TextFault) -> Result<Vec<u8>, AllocError>
 fn assembled(alloc: Global, file: &str, bytes: &[u8]) -> Result<Said, Stop>
     requires { length bytes.now < 2 ^ 30 }
     ensures told { SaysSo result (text_answer file.now bytes.now) }
+    ensures back { OnSaid result (λ said. said.status ≡ Done → IsReadBack bytes.now) }
     ensures quiet { result ≢ Err ReadFault }
 {
     let text = match text_of(alloc, file, bytes) {
@@ -95,6 +99,8 @@ fn assembled(alloc: Global, file: &str, bytes: &[u8]) -> Result<Said, Stop>
 pub fn assemble_file<F: Shelf>(alloc: Global, file: &str, shelf: &mut F) -> Result<Said, Stop>
     ensures told { (files : Files) → F.files shelf.old ≡ Some files
         → SaysSo result (load files file.now text_limit (text_answer file.now)) }
+    ensures back { (files : Files) (text : List ℕ) → F.files shelf.old ≡ Some files → get files file.now ≡ Some text
+        → OnSaid result (λ said. said.status ≡ Done → IsReadBack text) }
     ensures unchanged { F.files shelf.new ≡ F.files shelf.old }
     ensures cause { HasReadCause (F.faults shelf.old) (F.faults shelf.new) result }
 {

@@ -2,6 +2,8 @@ use Rattle.std.proofs.Common.{[], inl, Some, Ok, map, string_bytes, sym, ap, ◌
 use Rattle.ctw_words.specs.declared.words.Command.{Command}
 use Rattle.ctwasm_top.specs.Usage.{usage_text}
 use Rattle.ctw_words.specs.Commands.{command_in}
+use Rattle.ctwasm_top.specs.Texts.{IsReadBack}
+use Rattle.ctwasm_top.proofs.ReadBack.{settled_back}
 use Rattle.ctwasm_top.proofs.Dispatched.{on_command, reads_command, command_reads, command_causes, nothing_found, says_command, says_inferred, did_work, work_causes, settled_causes, written_causes}
 use Rattle.ctw_words.proofs.WorkWords.{work_numbers}
 use Rattle.ctwasm_top.proofs.dispatch.Goals as goal
@@ -59,6 +61,12 @@ pub returns-in-Some-Assemble-clause-causes : goal.returns-in-Some-Assemble-claus
 returns-in-Some-Assemble-clause-causes g c =
     command_causes (map string_bytes c.args.words.now) _ (sym c.in-Some-Assemble.ensures ∙ ap (λ (k : Command). Some (command_in k)) c.in-Some-Assemble.field-0-is) c.settle-in-Some-Assemble.result _ _ _ _ _ _
     (settled_causes _ c.settle-in-Some-Assemble.result c.assemble_file.result _ _ _ _ _ _ tt c.assemble_file.ensures.cause c.settle-in-Some-Assemble.ensures.read c.settle-in-Some-Assemble.ensures.write c.settle-in-Some-Assemble.ensures.quiet)
+
+pub returns-in-Some-Assemble-clause-back : goal.returns-in-Some-Assemble-clause-back
+returns-in-Some-Assemble-clause-back g c = λ files file text told e done there.
+    let q = sym (sym c.in-Some-Assemble.ensures ∙ ap (λ (k : Command). Some (command_in k)) c.in-Some-Assemble.field-0-is) ∙ e in
+    settled_back c.settle-in-Some-Assemble.result files _ _ (IsReadBack text) done c.assemble_file.result c.settle-in-Some-Assemble.ensures.did c.settle-in-Some-Assemble.ensures.want
+    (c.assemble_file.ensures.back files text told cc)
 
 pub returns-in-Some-Text-clause-did : goal.returns-in-Some-Text-clause-did
 returns-in-Some-Text-clause-did g c = λ files reading told h.

@@ -12,7 +12,9 @@ use Rattle.ctw_inputs.specs.declared.said.Status.TheVariants.{Done, Refused}
 use Rattle.ctw_inputs.specs.Outcome.{ends}
 use Rattle.ctw_inputs.specs.Settling.{IsStop}
 use Rattle.ctwasm_top.specs.Texts.{on_assembled, text_line}
+use Rattle.ctw_form.specs.Spelled.{Spells}
 use Rattle.ctwasm_top.proofs.Labelling.{says}
+use Rattle.ctwasm_top.proofs.ReadBack.{refusal_back}
 use Rattle.ctwasm_top.proofs.texts.assembled.Goals as goal
 
 -- the line is that of the text's first fault
@@ -44,6 +46,14 @@ returns-in-Ok-assemble-clause-told c =
     let is = c.in-Ok-assemble.ensures.bytes in
     c.in-Ok.ensures.told (λ text. on_assembled (assembled text)) ∙ ap on_assembled is.computed ∙ says Done c.done.result _ _ c.done.ensures is.spelled
 
+pub returns-in-Err-clause-back : goal.returns-in-Err-clause-back
+returns-in-Err-clause-back c = refusal_back _ _ c.in-Err.ensures.refuses
+
+pub returns-in-Ok-assemble-clause-back : goal.returns-in-Ok-assemble-clause-back
+returns-in-Ok-assemble-clause-back c =
+    let is = c.in-Ok-assemble.ensures.bytes in λ done.
+    record { m = is.m; denotes = subst (λ text. assembled text ≡ Ok is.m) c.in-Ok.ensures.same is.computed; read = subst (λ bytes. Spells bytes is.m) is.spelled is.read }
+
 pub returns-in-Err-assemble : goal.returns-in-Err-assemble
 returns-in-Err-assemble c =
     let some : c.in-Err-assemble.fault ≢ NoMemory = first_of (search rules, grind (arith, common_steps)) in
@@ -52,5 +62,6 @@ returns-in-Err-assemble c =
           subst (IsStop c.refuse.result) (sym (c.in-Ok.ensures.told (λ text. on_assembled (assembled text))))
           (on_fault c.in-Ok.text.now c.refuse.result (fault_of c.in-Err-assemble.fault) (none_wants c.in-Err-assemble.fault some) c.in-Err-assemble.ensures.fault
           (λ f e. c.refuse.ensures.told (text_line f) (some_of _ (fault_of c.in-Err-assemble.fault) f e c.text_line.ensures)));
+      back = refusal_back _ _ c.refuse.ensures.refuses;
       quiet = λ e. c.refuse.ensures.quiet cc;
     }
